@@ -1,5 +1,5 @@
 pub mod DocumentTests
-pub mod LayerStands
+pub mod LayerSatisfies
 pub mod LinkTests
 pub mod SameLayers
 pub mod SameManifests

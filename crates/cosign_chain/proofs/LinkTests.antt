@@ -18,7 +18,7 @@ use Rattle.oci_manifests.specs.declared.manifest.OciImageManifest.{OciImageManif
 use Rattle.oci_descriptors.specs.declared.descriptor.OciDescriptor.{OciDescriptor}
 use Rattle.oci_manifests.specs.declared.blob.ImageLayer.{ImageLayer}
 use Rattle.oci_manifests.specs.declared.blob.Config.{Config}
-use Rattle.cosign_layers.specs.Standing.{Meaning}
+use Rattle.cosign_layers.specs.Satisfying.{PolicyContext}
 use Rattle.oci_platforms.specs.declared.promise.ResolverPromise.{ResolverPromise}
 use Rattle.cosign_chain.specs.Chain.{ConfigLinks, LayerLinks, LayersLink, FirstIsManifest, LeadsToManifest, Chain}
 use Rattle.cosign_chain.specs.Links.{ManifestLinks, Links, named_by, same_annotations, has_manifest, has_config, is_layer_of, has_layers, is_linked}
@@ -118,9 +118,9 @@ manifest_links None v first = of_manifest v first
 manifest_links (Some promise) v (inl first) = of_manifest v first
 manifest_links (Some promise) v (inr first) = rw first.list (refl, first.named)
 
-pub chain_links : {V : Type 0} {H : V → Type 0} {meaning : Meaning V H} {image : Reference}
+pub chain_links : {V : Type 0} {H : V → Type 0} {policy_context : PolicyContext V H} {image : Reference}
     {accepted : List (List ℕ)} {promise : Option ResolverPromise} {v : VerifiedImage}
-    → Chain meaning image accepted promise v → Links image accepted v
+    → Chain policy_context image accepted promise v → Links image accepted v
 chain_links {promise = promise} {v = v} chain = record {
   named = chain.named;
   asked = chain.asked;

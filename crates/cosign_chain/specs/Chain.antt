@@ -16,7 +16,7 @@ use Rattle.oci_manifests.specs.declared.blob.ImageLayer.{ImageLayer}
 use Rattle.oci_manifests.specs.declared.blob.Config.{Config}
 use Rattle.oci_platforms.specs.Promise.{Picks}
 use Rattle.oci_platforms.specs.declared.promise.ResolverPromise.{ResolverPromise}
-use Rattle.cosign_layers.specs.Standing.{Meaning, StandsFor}
+use Rattle.cosign_layers.specs.Satisfying.{PolicyContext, StandsFor}
 use Rattle.cosign_chain.specs.declared.image.VerifiedImage.{VerifiedImage}
 
 -- the bytes are JSON of the supported version, and parse as this document and as no other
@@ -73,7 +73,8 @@ LayersLink accepted (x ∷ xs) (layer ∷ layers) = LayerLinks accepted x layer 
 -- The digest names the first document, as the requested digest does if there is one. The document is the manifest or
 -- leads to it, and the manifest's digests name the configuration and the layers, of which there is at least one; and a
 -- signature layer stands for the digest.
-pub record Chain {V : Type 0} {H : V → Type 0} (meaning : Meaning V H) (image : Reference) (accepted : List (List ℕ))
+pub record Chain {V : Type 0} {H : V → Type 0} (policy_context : PolicyContext V H) (image : Reference)
+    (accepted : List (List ℕ))
     (promise : Option ResolverPromise) (v : VerifiedImage) : Type 0 where
   pub named : Names v.digest v.first
   pub asked : (digest : List ℕ) → digest_of image ≡ Some digest → Names digest v.first
@@ -81,4 +82,4 @@ pub record Chain {V : Type 0} {H : V → Type 0} (meaning : Meaning V H) (image 
   pub config : ConfigLinks v.manifest v.config
   pub some : 0 < length v.layers
   pub layers : LayersLink accepted v.manifest.layers v.layers
-  pub signature : StandsFor meaning v.digest v.signature
+  pub signature : StandsFor policy_context v.digest v.signature

@@ -1,7 +1,7 @@
 //! Checks the whole chain again.
 ghost use Rattle.std.specs.Prelude.{◌≡◌, ◌↔◌, IfOk, IfErr, IsTrue, option_copied};
 ghost use Rattle.cosign_layers.specs.Read.{Gives, HasOneOutcome, RejectedUnlessMemory, input_of};
-ghost use Rattle.cosign_layers.specs.Standing.{StandsFor, meaning};
+ghost use Rattle.cosign_layers.specs.Satisfying.{StandsFor, policy_context};
 ghost use Rattle.cosign_layers.specs.Trust.{trust};
 ghost use Rattle.cosign_chain.specs.Chain.{Chain};
 
@@ -11,7 +11,7 @@ use crate::links::check_links;
 use crate::same_layer::same_reading;
 use cosign_layers::{
     LayerKind, LayerRejection, LogKeys, Offline, PullPolicy, SignatureLayer, SignatureVerifier,
-    read_bundle_layer, read_payload_layer, stands,
+    read_bundle_layer, read_payload_layer, satisfies_policy,
 };
 use json_values::Text;
 use oci_names::Reference;
@@ -35,7 +35,7 @@ pub fn check_chain<V: SignatureVerifier, O: Offline>(
     judge: &O,
     found: &VerifiedImage,
 ) -> Result<bool, AllocError>
-    ensures { IfOk result (λ holds. IsTrue holds ↔ Chain (meaning policy.now (λ b. accepts (b.vtable, b.value))
+    ensures { IfOk result (λ holds. IsTrue holds ↔ Chain (policy_context policy.now (λ b. accepts (b.vtable, b.value))
         (trust (V.valid verifier.now) (O.vouched judge.now) log_keys.now))
         image.now accepted_media_types.now (option_copied promise.entry) found.now) }
 {
@@ -52,7 +52,7 @@ pub fn check_chain<V: SignatureVerifier, O: Offline>(
 }
 
 // Whether the layer stands for the image of this digest.
-#[tactic(auto, using(crate::proofs::LayerStands::standing_rules))]
+#[tactic(auto, using(crate::proofs::LayerSatisfies::standing_rules))]
 fn stands_for<V: SignatureVerifier, O: Offline>(
     alloc: Global,
     policy: &PullPolicy,
@@ -62,7 +62,8 @@ fn stands_for<V: SignatureVerifier, O: Offline>(
     digest: &str,
     layer: &SignatureLayer,
 ) -> Result<bool, AllocError>
-    ensures { IfOk result (λ stood. IsTrue stood ↔ StandsFor (meaning policy.now (λ b. accepts (b.vtable, b.value))
+    ensures { IfOk result
+        (λ stood. IsTrue stood ↔ StandsFor (policy_context policy.now (λ b. accepts (b.vtable, b.value))
         (trust (V.valid verifier.now) (O.vouched judge.now) log_keys.now))
         digest.now layer.now) }
 {
@@ -74,7 +75,7 @@ fn stands_for<V: SignatureVerifier, O: Offline>(
             if !same_reading(&again, layer) {
                 return Ok(false);
             }
-            let stood = stands(alloc, verifier, policy, layer)?;
+            let stood = satisfies_policy(alloc, verifier, policy, layer)?;
             Ok(stood)
         }
         Err(rejection) => {

@@ -2,7 +2,7 @@
 use Rattle.std.specs.Prelude.{ℕ, Bool, true, false, List, if◌then◌else◌, Option, Some, None, unwrap_or}
 use Rattle.std.specs.FinMap.{FinMap, empty, entries}
 use Rattle.json_values.specs.Places.{by_bytes}
-use Rattle.oci_auth.specs.Memory.{fresh}
+use Rattle.oci_auth.specs.AuthState.{fresh}
 use Rattle.oci_engine.specs.Clients.{settings_of}
 use Rattle.oci_engine.specs.declared.config.ClientConfig.{ClientConfig as OciConfig}
 use Rattle.sig_calls.specs.Clients.{Client as Shown, no_answers}

@@ -7,15 +7,15 @@ ghost use Rattle.oci_protocol.specs.Ends.{UnlessMemory};
 ghost use Rattle.oci_protocol.specs.Runs.{Meets, Told};
 ghost use Rattle.cosign_chain.specs.Chain.{Chain};
 ghost use Rattle.cosign_chain.specs.Links.{Links};
-ghost use Rattle.cosign_layers.specs.Standing.{meaning};
-ghost use Rattle.sig_calls.specs.Confinement.{Stays};
+ghost use Rattle.cosign_layers.specs.Satisfying.{policy_context};
+ghost use Rattle.sig_calls.specs.Confinement.{StaysConfined};
 ghost use Rattle.sig_settings.specs.Auths.{registry_auth};
 ghost use Rattle.sig_calls.specs.Direct.{reference_in};
 ghost use Rattle.sig_calls.specs.Error.{is_memory as of_memory};
 ghost use Rattle.sig_calls.specs.Error.{FaultCounted as SearchFaultCounted, NoSinkFault as NoSinkInSearch};
 ghost use Rattle.cosign_rows.specs.Causes.{PullCause, SearchCause};
 ghost use Rattle.cosign_rows.specs.DigestStep.{BeginsWithDigest, IsRefusedAs, unchanged};
-ghost use Rattle.cosign_rows.specs.Points.{point_of};
+ghost use Rattle.cosign_rows.specs.Snapshots.{snapshot_of};
 ghost use Rattle.cosign_rows.specs.Refusal.{is_memory, refused_as, FaultCounted, NoSinkFault};
 ghost use Rattle.cosign_rows.specs.Search.{searched};
 ghost use Rattle.cosign_rows.specs.Settled.{IsSettled};
@@ -67,8 +67,8 @@ impl Client {
         ensures settings { (client_state self.new).settings ≡ (client_state self.old).settings }
         ensures keys { self.new.rekor_pub_keys ≡ self.old.rekor_pub_keys }
         ensures fault { SearchFaultCounted (T.state transport.old) (T.state transport.new) result }
-        ensures no_sink { NoSinkInSearch result }
-        ensures confined { Stays (client_state self.old) (client_state self.new) moment (reference_in image.now)
+        ensures no_sink_fault { NoSinkInSearch result }
+        ensures confined { StaysConfined (client_state self.old) (client_state self.new) moment (reference_in image.now)
             (Some (registry_auth auth.now)) (T.state transport.old) (T.state transport.new) }
     {
         let auth = auth.to_registry(alloc)?;
@@ -107,21 +107,22 @@ impl Client {
         ensures digest { UnlessMemory of_memory (λ r. Told
             (λ c. BeginsWithDigest unchanged (within (client_state self.old).settings moment)
             (reference_in source_image.now) (registry_auth auth.now)
-            (point_of (client_state self.old) (T.state transport.old)) c
-            (point_of (client_state self.new) (T.state transport.new)) r)
+            (snapshot_of (client_state self.old) (T.state transport.old)) c
+            (snapshot_of (client_state self.new) (T.state transport.new)) r)
             (T.state transport.old) (T.state transport.new)) result }
         ensures causes { IfErr result (λ e. Told
             (λ c. SearchCause (within (client_state self.old).settings moment)
             (reference_in source_image.now) (registry_auth auth.now)
-            (point_of (client_state self.old) (T.state transport.old)) c
-            (point_of (client_state self.new) (T.state transport.new)) e)
+            (snapshot_of (client_state self.old) (T.state transport.old)) c
+            (snapshot_of (client_state self.new) (T.state transport.new)) e)
             (T.state transport.old) (T.state transport.new)) }
         ensures fault { SearchFaultCounted (T.state transport.old) (T.state transport.new) result }
-        ensures no_sink { NoSinkInSearch result }
+        ensures no_sink_fault { NoSinkInSearch result }
         ensures no_memory { IfOk result (λ found. HoldsNoMemoryNorSink found.skipped) }
         ensures faults { IfOk result (λ found. CountsFaults
             (T.state transport.old).faults (T.state transport.new).faults found.skipped) }
-        ensures confined { Stays (client_state self.old) (client_state self.new) moment (reference_in source_image.now)
+        ensures confined { StaysConfined (client_state self.old) (client_state self.new) moment
+            (reference_in source_image.now)
             (Some (registry_auth auth.now)) (T.state transport.old) (T.state transport.new) }
     {
         let auth = auth.to_registry(alloc)?;
@@ -164,7 +165,7 @@ impl Client {
         judge: &'a O,
     ) -> Result<VerifiedImage, PullRefusal>
         ensures run { Meets is_memory
-            (verified (meaning policy.now (λ b. accepts (b.vtable, b.value))
+            (verified (policy_context policy.now (λ b. accepts (b.vtable, b.value))
             (trusts (V.valid verifier.now) (O.vouched judge.now) self.old))
             (within (client_state self.old).settings moment) (reference_in image.now)
             (registry_auth auth.now) accepted_media_types.now)
@@ -181,21 +182,21 @@ impl Client {
             UnlessMemory is_memory (λ r. Told
             (λ c. BeginsWithDigest refused_as (within (client_state self.old).settings moment)
             (reference_in image.now) (registry_auth auth.now)
-            (point_of (client_state self.old) (T.state transport.old)) c
-            (point_of (client_state self.new) (T.state transport.new)) r)
+            (snapshot_of (client_state self.old) (T.state transport.old)) c
+            (snapshot_of (client_state self.new) (T.state transport.new)) r)
             (T.state transport.old) (T.state transport.new)) result }
         ensures chain { IfOk result (λ v. Chain
-            (meaning policy.now (λ b. accepts (b.vtable, b.value))
+            (policy_context policy.now (λ b. accepts (b.vtable, b.value))
             (trusts (V.valid verifier.now) (O.vouched judge.now) self.old))
             (reference_in image.now) accepted_media_types.now
             (client_state self.old).settings.platform_resolver v) }
         ensures causes { IfErr result (λ e. Told
-            (λ c. PullCause (meaning policy.now (λ b. accepts (b.vtable, b.value))
+            (λ c. PullCause (policy_context policy.now (λ b. accepts (b.vtable, b.value))
             (trusts (V.valid verifier.now) (O.vouched judge.now) self.old))
             (within (client_state self.old).settings moment) (reference_in image.now)
             (registry_auth auth.now) accepted_media_types.now
-            (point_of (client_state self.old) (T.state transport.old)) c
-            (point_of (client_state self.new) (T.state transport.new)) e)
+            (snapshot_of (client_state self.old) (T.state transport.old)) c
+            (snapshot_of (client_state self.new) (T.state transport.new)) e)
             (T.state transport.old) (T.state transport.new)) }
         ensures backed { IfOk result (λ v. Told
             (λ c. Backed (client_state self.old).kept (within (client_state self.old).settings moment)
@@ -203,23 +204,23 @@ impl Client {
             (T.state transport.old) (T.state transport.new)) }
         ensures links { IfOk result (λ v. Links (reference_in image.now) accepted_media_types.now v) }
         ensures fault { FaultCounted (T.state transport.old) (T.state transport.new) result }
-        ensures no_sink { NoSinkFault result }
+        ensures no_sink_fault { NoSinkFault result }
         ensures no_memory { IfErr result (λ e. OnSkipped HoldsNoMemoryNorSink e) }
         ensures faults { IfErr result (λ e. OnSkipped
             (CountsFaults (T.state transport.old).faults (T.state transport.new).faults) e) }
-        ensures confined { Stays (client_state self.old) (client_state self.new) moment (reference_in image.now)
+        ensures confined { StaysConfined (client_state self.old) (client_state self.new) moment (reference_in image.now)
             (Some (registry_auth auth.now)) (T.state transport.old) (T.state transport.new) }
         ensures completes { (shelf : Shelf) → AnswersFrom shelf (T.state transport.old)
             → IsSettled (client_state self.old).settings (reference_in image.now) (registry_auth auth.now) shelf
             (client_state self.old).kept
-            → ValidShelf (meaning policy.now (λ b. accepts (b.vtable, b.value))
+            → ValidShelf (policy_context policy.now (λ b. accepts (b.vtable, b.value))
             (trusts (V.valid verifier.now) (O.vouched judge.now) self.old))
             (client_state self.old).settings (reference_in image.now) (registry_auth auth.now)
             accepted_media_types.now shelf → OkOrMemory result }
         ensures completes_wide { (shelf : Shelf) → AnswersFrom shelf (T.state transport.old)
             → IsSettled (client_state self.old).settings (reference_in image.now) (registry_auth auth.now) shelf
             (client_state self.old).kept
-            → WideShelf (meaning policy.now (λ b. accepts (b.vtable, b.value))
+            → WideShelf (policy_context policy.now (λ b. accepts (b.vtable, b.value))
             (trusts (V.valid verifier.now) (O.vouched judge.now) self.old))
             (client_state self.old).settings (reference_in image.now) (registry_auth auth.now)
             accepted_media_types.now shelf → OkOrMemory result }

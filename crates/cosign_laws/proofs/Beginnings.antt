@@ -4,7 +4,7 @@ use Rattle.oci_transport.specs.Link.{Link}
 use Rattle.oci_transport.specs.declared.message.Exchange.{Exchange}
 use Rattle.oci_protocol.specs.Proto.{Proto, Done, bind, unless_refused, ◌>>=◌}
 use Rattle.oci_protocol.specs.Runs.{Runs, Meets, Told}
-use Rattle.oci_protocol.specs.Shows.{Shows}
+use Rattle.oci_protocol.specs.EveryRun.{EveryRun}
 use Rattle.oci_protocol.proofs.Parts.{Runs-parts, Runs-done}
 use Rattle.sig_calls.specs.declared.error.SigstoreError.{SigstoreError}
 use Rattle.sig_calls.specs.Clients.{Kept, Row}
@@ -22,7 +22,7 @@ seen_done {A} {E} P x r k l m n o c d h run = let parts = Runs-done x k n d o l 
   later (Err e) h = tt
 
 second_seen : {A B E : Type 0} (P : List Exchange → A → Type 0) (Q : List Exchange → B → Type 0) (f : A → Proto Kept (Result B E)) (x : Result A E) (r : Result B E) (k l : Kept) (m n o : ℕ) (c d : List Exchange)
-    → ((c : List Exchange) (a : A) → P c a → Shows (Seen (λ d b. Q (c ++ d) b)) (f a)) → Seen P m c n x → Runs (unless_refused f x) k n d o l r → Seen Q m (c ++ d) o r
+    → ((c : List Exchange) (a : A) → P c a → EveryRun (Seen (λ d b. Q (c ++ d) b)) (f a)) → Seen P m c n x → Runs (unless_refused f x) k n d o l r → Seen Q m (c ++ d) o r
 second_seen P Q f (Err e) r k l m n o c d each h run = seen_done Q (Err e) r k l m n o c d tt run
 second_seen {B = B} {E = E} P Q f (Ok a) r k l m n o c d each h run = moved r ((each c a h).shows k l n o d r run) where
   moved : (r : Result B E) → Seen (λ d b. Q (c ++ d) b) n d o r → Seen Q m (c ++ d) o r
@@ -30,7 +30,7 @@ second_seen {B = B} {E = E} P Q f (Ok a) r k l m n o c d each h run = moved r ((
   moved (Err e) h = tt
 
 -- a step, and what it leads to
-pub next_from : {A B E : Type 0} (k : Kept) (P : List Exchange → A → Type 0) (Q : List Exchange → B → Type 0) (p : Proto Kept (Result A E)) (f : A → Proto Kept (Result B E)) → SeenFrom k P p → ((c : List Exchange) (a : A) → P c a → Shows (Seen (λ d b. Q (c ++ d) b)) (f a)) → SeenFrom k Q (p >>= f)
+pub next_from : {A B E : Type 0} (k : Kept) (P : List Exchange → A → Type 0) (Q : List Exchange → B → Type 0) (p : Proto Kept (Result A E)) (f : A → Proto Kept (Result B E)) → SeenFrom k P p → ((c : List Exchange) (a : A) → P c a → EveryRun (Seen (λ d b. Q (c ++ d) b)) (f a)) → SeenFrom k Q (p >>= f)
 next_from k P Q p f h each = record {
   seen = λ l m n c r run.
       let t = Runs-parts p (unless_refused f) k m c n l r run in

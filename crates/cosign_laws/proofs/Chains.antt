@@ -14,11 +14,11 @@ use Rattle.oci_descriptors.specs.declared.index_entry.ImageIndexEntry.{ImageInde
 use Rattle.oci_transport.specs.declared.message.Exchange.{Exchange}
 use Rattle.oci_transport.specs.Link.{Link}
 use Rattle.oci_protocol.specs.Proto.{Done}
-use Rattle.oci_protocol.specs.Shows.{Shows}
+use Rattle.oci_protocol.specs.EveryRun.{EveryRun}
 use Rattle.oci_protocol.specs.Ends.{Ends, OnAnswer}
 use Rattle.oci_protocol.specs.Runs.{Meets, Told}
 use Rattle.oci_protocol.proofs.Ends.{Ends-any, Ends-bind, Ends-next, Runs-ends}
-use Rattle.oci_protocol.proofs.RunFacts.{Shows-done, Shows-bind}
+use Rattle.oci_protocol.proofs.RunFacts.{EveryRun-done, EveryRun-bind}
 use Rattle.engine_terms.specs.Contexts.{Context}
 use Rattle.engine_rows.specs.declared.image.ImageData.{ImageData}
 use Rattle.engine_laws.proofs.DigestAnswers.{answered_before}
@@ -33,13 +33,13 @@ use Rattle.sig_calls.specs.Calls.{digests, digest_made, digest_call, manifest_ca
 use Rattle.cosign_layers.specs.Checks.{input}
 use Rattle.cosign_layers.specs.Constraint.{has_no_item}
 use Rattle.cosign_layers.specs.Layer.{LayerOf, IsAboutImage}
-use Rattle.cosign_layers.specs.Standing.{Meaning, StandsFor}
+use Rattle.cosign_layers.specs.Satisfying.{PolicyContext, StandsFor}
 use Rattle.cosign_layers.specs.Trust.{Trust}
 use Rattle.cosign_layers.specs.declared.layer.LayerKind.TheVariants as kinds
 use Rattle.cosign_layers.specs.declared.layer.SignatureLayer.{SignatureLayer}
 use Rattle.cosign_layers.specs.declared.rejection.LayerRejection.{LayerRejection}
 use Rattle.cosign_layers.proofs.Layers.{gives}
-use Rattle.cosign_layers.proofs.Supports.{stands_for}
+use Rattle.cosign_layers.proofs.SatisfiesPolicy.{stands_for}
 use Rattle.oci_digests.specs.Names.{Names, digest_text}
 use Rattle.oci_digests.specs.declared.digester.Algorithm.TheVariants.{Sha256}
 use Rattle.oci_platforms.specs.Promise.{Picks}
@@ -55,7 +55,7 @@ use Rattle.cosign_rows.specs.Refusal.{is_memory as of_refusal}
 use Rattle.cosign_rows.specs.Search.{payload_type, document_part, tag_layers, or_skipped, tag_by, tag_source, bundle_type, referrer_part, referrer_by, referrer_row, referrers_row, listed_row, referrers_source, trusted_layers, searched}
 use Rattle.cosign_rows.specs.Sound.{Fresh, AnsweredOrFresh, Backed, Sound}
 use Rattle.cosign_rows.specs.Tails.{after_search}
-use Rattle.cosign_rows.specs.Verified.{constrained, is_unconstrained, readable, as_whole, part_of, stands_by, standing_by, standing, manifest_digests, verified_image, verified}
+use Rattle.cosign_rows.specs.Verified.{constrained, is_unconstrained, readable, as_whole, part_of, stands_by, signed_digest, standing, manifest_digests, verified_image, verified}
 use Rattle.cosign_rows.specs.declared.found.Part.{Part}
 use Rattle.cosign_rows.specs.declared.found.SkipCause.{SkipCause}
 use Rattle.cosign_rows.specs.declared.found.SkipCause.TheVariants.{Refused}
@@ -66,7 +66,7 @@ use Rattle.cosign_rows.specs.declared.found.SourceKind.TheVariants.{Tag, Referre
 use Rattle.cosign_rows.specs.declared.found.TrustedLayers.{TrustedLayers}
 use Rattle.cosign_rows.specs.declared.pulled.Pulled.{Pulled}
 use Rattle.cosign_rows.specs.declared.refusal.PullRefusal.{PullRefusal}
-use Rattle.cosign_rows.specs.declared.standing.Standing.{Standing}
+use Rattle.cosign_rows.specs.declared.signed_digest.SignedDigest.{SignedDigest}
 use Rattle.cosign_laws.proofs.Beginnings.{SeenFrom, next_from, step_from, part_from, told_from}
 use Rattle.cosign_laws.proofs.CachedCalls.{IsKnown, IsMade, cached_run}
 use Rattle.cosign_laws.proofs.Images.{Seen, digest_made_shows, next_seen, step_seen, done_seen, bodies_after, IsFirst, IsEntry, Leads, Links, image_shows}
@@ -226,7 +226,7 @@ fits_seen : (trust : Trust) (d : List ℕ) (m n : ℕ) (c : List Exchange) (r : 
 fits_seen trust d m n c (Ok part) h = h
 fits_seen trust d m n c (Err e) h = tt
 
-part_shows : (trust : Trust) (d : List ℕ) (p : Row Part) → Ends (OnAnswer (PartFits trust d)) p → Shows (Seen (λ c part. PartFits trust d part)) p
+part_shows : (trust : Trust) (d : List ℕ) (p : Row Part) → Ends (OnAnswer (PartFits trust d)) p → EveryRun (Seen (λ c part. PartFits trust d part)) p
 part_shows trust d p h = record { shows = λ k l m n c r run. fits_seen trust d m n c r (Runs-ends (OnAnswer (PartFits trust d)) p k l m n c r h run) }
 
 search_seen : (kept : Kept) (trust : Trust) (s : Context) (image : Reference) (a : RegistryAuth) → SeenFrom kept (Found kept trust s image a) (searched trust s image a)
@@ -261,18 +261,18 @@ whole_seen : {A : Type 0} (P : List Exchange → A → Type 0) (m n o : ℕ) (c 
 whole_seen P m n o c (Ok a) h = rw append-nil h
 whole_seen P m n o c (Err e) h = tt
 
-part_seen : {A : Type 0} (P : List Exchange → A → Type 0) (p : Row A) → Shows (Seen P) p → Shows (Seen P) (part_of p)
+part_seen : {A : Type 0} (P : List Exchange → A → Type 0) (p : Row A) → EveryRun (Seen P) p → EveryRun (Seen P) (part_of p)
 unfolding part_of
-part_seen P p h = Shows-bind (Seen P) (Seen P) p (λ r. Done (as_whole r)) h (λ m n c r at. Shows-done (λ s d o b. Seen P m (c ++ d) o b) (as_whole r) (λ o. whole_seen P m n o c r at))
+part_seen P p h = EveryRun-bind (Seen P) (Seen P) p (λ r. Done (as_whole r)) h (λ m n c r at. EveryRun-done (λ s d o b. Seen P m (c ++ d) o b) (as_whole r) (λ o. whole_seen P m n o c r at))
 
-module _ {V : Type 0} {H : V → Type 0} (kept : Kept) (s : Context) (meaning : Meaning V H) (image : Reference) (a : RegistryAuth) (accepted : List (List ℕ)) where
+module _ {V : Type 0} {H : V → Type 0} (kept : Kept) (s : Context) (policy_context : PolicyContext V H) (image : Reference) (a : RegistryAuth) (accepted : List (List ℕ)) where
   abbrev IsSound : List Exchange → VerifiedImage → Type 0
-  IsSound = Sound kept s meaning image a accepted
+  IsSound = Sound kept s policy_context image a accepted
 
-  first_leads : (stood : Standing) (pulled : Pulled) → IsFirst pulled.first pulled.chosen → FirstIsManifest (verified_image stood pulled)
+  first_leads : (stood : SignedDigest) (pulled : Pulled) → IsFirst pulled.first pulled.chosen → FirstIsManifest (verified_image stood pulled)
   first_leads stood pulled h = record { reads = h.reads; bytes = h.bytes; digest = ap (λ o. (manifest_digests stood.digest o).0) h.none; no_list = ap (λ o. (manifest_digests stood.digest o).1) h.none }
 
-  entry_leads : (promise : ResolverPromise) (stood : Standing) (pulled : Pulled) → IsEntry promise pulled.first pulled.chosen → FirstIsIndex promise (verified_image stood pulled)
+  entry_leads : (promise : ResolverPromise) (stood : SignedDigest) (pulled : Pulled) → IsEntry promise pulled.first pulled.chosen → FirstIsIndex promise (verified_image stood pulled)
   entry_leads promise stood pulled h =
       let same : (manifest_digests stood.digest pulled.chosen.entry).0 ≡ h.entry = ap (λ o. (manifest_digests stood.digest o).0) h.is in
       record {
@@ -284,12 +284,12 @@ module _ {V : Type 0} {H : V → Type 0} (kept : Kept) (s : Context) (meaning : 
         list = ap (λ o. (manifest_digests stood.digest o).1) h.is;
       }
 
-  leads : (promise : Option ResolverPromise) (stood : Standing) (pulled : Pulled) → Leads promise pulled.first pulled.chosen → LeadsToManifest promise (verified_image stood pulled)
+  leads : (promise : Option ResolverPromise) (stood : SignedDigest) (pulled : Pulled) → Leads promise pulled.first pulled.chosen → LeadsToManifest promise (verified_image stood pulled)
   leads None stood pulled h = first_leads stood pulled h
   leads (Some promise) stood pulled (inl h) = inl (first_leads stood pulled h)
   leads (Some promise) stood pulled (inr h) = inr (entry_leads promise stood pulled h)
 
-  sound_of : (c d : List Exchange) (stood : Standing) (pulled : Pulled) → AnsweredOrFresh kept s image a c stood.digest → StandsFor meaning stood.digest stood.signature → Links s.settings.platform_resolver image stood.digest accepted d pulled → IsSound (c ++ d) (verified_image stood pulled)
+  sound_of : (c d : List Exchange) (stood : SignedDigest) (pulled : Pulled) → AnsweredOrFresh kept s image a c stood.digest → StandsFor policy_context stood.digest stood.signature → Links s.settings.platform_resolver image stood.digest accepted d pulled → IsSound (c ++ d) (verified_image stood pulled)
   sound_of c d stood pulled answered signed links = record {
     chain = record {
       named = links.named;
@@ -310,49 +310,49 @@ module _ {V : Type 0} {H : V → Type 0} (kept : Kept) (s : Context) (meaning : 
   }
 
   -- the selected layer stands for the returned digest
-  record Stood (c : List Exchange) (stood : Standing) : Type 0 where
+  record Stood (c : List Exchange) (stood : SignedDigest) : Type 0 where
     answered : AnsweredOrFresh kept s image a c stood.digest
-    stands : StandsFor meaning stood.digest stood.signature
+    stands : StandsFor policy_context stood.digest stood.signature
 
-  stood_by : (c : List Exchange) (found : TrustedLayers) (o : Option SignatureLayer) (stood : Standing) → 0 < length meaning.policy.constraints → Found kept meaning.trust s image a c found → find (stands_by meaning) found.collected ≡ o → standing_by found o ≡ Ok stood → Stood c stood
+  stood_by : (c : List Exchange) (found : TrustedLayers) (o : Option SignatureLayer) (stood : SignedDigest) → 0 < length policy_context.policy.constraints → Found kept policy_context.trust s image a c found → find (stands_by policy_context) found.collected ≡ o → signed_digest found o ≡ Ok stood → Stood c stood
   stood_by c found None stood some h first is = absurd (cc is)
   stood_by c found (Some signature) stood some h first is =
-      let same : (let x : Standing = record { digest = found.digest; signature = signature } in x) ≡ stood = cc is in
-      let f = first_fits meaning.trust (stands_by meaning) found.digest found.collected signature h.fit first in
-      subst (Stood c) same (record { answered = h.answered; stands = (stands_for meaning signature found.digest (f.0).layer_of (f.0).about some).0 f.1 })
+      let same : (let x : SignedDigest = record { digest = found.digest; signature = signature } in x) ≡ stood = cc is in
+      let f = first_fits policy_context.trust (stands_by policy_context) found.digest found.collected signature h.fit first in
+      subst (Stood c) same (record { answered = h.answered; stands = (stands_for policy_context signature found.digest (f.0).layer_of (f.0).about some).0 f.1 })
 
-  after_shows : (c : List Exchange) (found : TrustedLayers) → 0 < length meaning.policy.constraints → Found kept meaning.trust s image a c found → Shows (Seen (λ d v. IsSound (c ++ d) v)) (after_search meaning s image a accepted found)
+  after_shows : (c : List Exchange) (found : TrustedLayers) → 0 < length policy_context.policy.constraints → Found kept policy_context.trust s image a c found → EveryRun (Seen (λ d v. IsSound (c ++ d) v)) (after_search policy_context s image a accepted found)
   unfolding after_search
   after_shows c found some h =
-      step_seen (λ d v. IsSound (c ++ d) v) (standing meaning found) _ (λ stood is.
-      let stands = stood_by c found (find (stands_by meaning) found.collected) stood some h refl is in
+      step_seen (λ d v. IsSound (c ++ d) v) (standing policy_context found) _ (λ stood is.
+      let stands = stood_by c found (find (stands_by policy_context) found.collected) stood some h refl is in
       next_seen (Links s.settings.platform_resolver image stood.digest accepted) (λ d v. IsSound (c ++ d) v) (part_of (image_row s image (digest_reference image stood.digest) a accepted)) _
       (part_seen (Links s.settings.platform_resolver image stood.digest accepted) (image_row s image (digest_reference image stood.digest) a accepted) (image_shows s image (digest_reference image stood.digest) stood.digest a accepted refl)) (λ d pulled links.
       done_seen (λ e v. IsSound (c ++ (d ++ e)) v) (verified_image stood pulled) (rw append-nil (sound_of c d stood pulled stands.answered stands.stands links))))
 
   -- the result of a pull has a chain, and comes from its conversation
-  pub verified_seen : SeenFrom kept IsSound (verified meaning s image a accepted)
+  pub verified_seen : SeenFrom kept IsSound (verified policy_context s image a accepted)
   unfolding verified after_search
   verified_seen =
-      step_from kept IsSound (constrained (is_unconstrained meaning.policy)) _ (λ u is.
+      step_from kept IsSound (constrained (is_unconstrained policy_context.policy)) _ (λ u is.
       step_from kept IsSound (readable image) _ (λ v back.
-      next_from kept (Found kept meaning.trust s image a) IsSound (part_of (searched meaning.trust s image a)) _ (part_from kept (Found kept meaning.trust s image a) (searched meaning.trust s image a) (search_seen kept meaning.trust s image a)) (λ c found h.
-      after_shows c found (some_constraint meaning.policy.constraints (constrained_some (is_unconstrained meaning.policy) u is)) h)))
+      next_from kept (Found kept policy_context.trust s image a) IsSound (part_of (searched policy_context.trust s image a)) _ (part_from kept (Found kept policy_context.trust s image a) (searched policy_context.trust s image a) (search_seen kept policy_context.trust s image a)) (λ c found h.
+      after_shows c found (some_constraint policy_context.policy.constraints (constrained_some (is_unconstrained policy_context.policy) u is)) h)))
 
-  told_sound : {old new : Link} {l : Kept} (r : Result VerifiedImage PullRefusal) → Meets of_refusal (verified meaning s image a accepted) old new kept l r → IfOk r (λ v. Told (λ c. IsSound c v) old new)
+  told_sound : {old new : Link} {l : Kept} (r : Result VerifiedImage PullRefusal) → Meets of_refusal (verified policy_context s image a accepted) old new kept l r → IfOk r (λ v. Told (λ c. IsSound c v) old new)
   told_sound r met = told_from IsSound r verified_seen met
 
   -- the chain of the result of a pull
-  pub chain_of : {old new : Link} {l : Kept} (r : Result VerifiedImage PullRefusal) → Meets of_refusal (verified meaning s image a accepted) old new kept l r → IfOk r (λ v. Chain meaning image accepted s.settings.platform_resolver v)
+  pub chain_of : {old new : Link} {l : Kept} (r : Result VerifiedImage PullRefusal) → Meets of_refusal (verified policy_context s image a accepted) old new kept l r → IfOk r (λ v. Chain policy_context image accepted s.settings.platform_resolver v)
   chain_of (Ok v) met = (told_sound (Ok v) met).holds.chain
   chain_of (Err e) met = tt
 
   -- the links of the result
-  pub links_of : {old new : Link} {l : Kept} (r : Result VerifiedImage PullRefusal) → Meets of_refusal (verified meaning s image a accepted) old new kept l r → IfOk r (λ v. HasLinks image accepted v)
+  pub links_of : {old new : Link} {l : Kept} (r : Result VerifiedImage PullRefusal) → Meets of_refusal (verified policy_context s image a accepted) old new kept l r → IfOk r (λ v. HasLinks image accepted v)
   links_of (Ok v) met = chain_links (told_sound (Ok v) met).holds.chain
   links_of (Err e) met = tt
 
   -- where the result comes from
-  pub backed_of : {old new : Link} {l : Kept} (r : Result VerifiedImage PullRefusal) → Meets of_refusal (verified meaning s image a accepted) old new kept l r → IfOk r (λ v. Told (λ c. Backed kept s image a c v) old new)
+  pub backed_of : {old new : Link} {l : Kept} (r : Result VerifiedImage PullRefusal) → Meets of_refusal (verified policy_context s image a accepted) old new kept l r → IfOk r (λ v. Told (λ c. Backed kept s image a c v) old new)
   backed_of (Ok v) met = let told = told_sound (Ok v) met in record { conversation = told.conversation; told = told.told; holds = told.holds.backed }
   backed_of (Err e) met = tt

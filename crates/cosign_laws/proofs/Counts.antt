@@ -6,7 +6,7 @@ use Rattle.oci_transport.specs.declared.message.Exchange.{Exchange}
 use Rattle.oci_protocol.specs.Proto.{Proto, Done, bind}
 use Rattle.oci_protocol.specs.Lift.{lifted}
 use Rattle.oci_protocol.specs.Ends.{UnlessMemory}
-use Rattle.oci_protocol.specs.Runs.{Runs, Performs, Breaks, Outcome, Meets}
+use Rattle.oci_protocol.specs.Runs.{Runs, Performs, PerformsPrefix, Outcome, Meets}
 use Rattle.oci_protocol.proofs.Laws.{Runs-count}
 use Rattle.oci_protocol.proofs.WiderMemory.{Runs-unlifted}
 use Rattle.oci_protocol.proofs.Parts.{Runs-parts}
@@ -48,7 +48,7 @@ Meets-counts {K} {A} {E} {of_memory} Q {p} {old} {new} {k} {l} {r} h met = by_re
   performed : (r : Result A E) → Performs p old new k l r → Q old.faults new.faults r
   performed r run = h.counts k l old.faults new.faults run.conversation r run.runs
 
-  by_memory : (b : Bool) (e : E) → MatchBool b (Breaks p old new k l) (Performs p old new k l (Err e)) → MatchBool b (Unit {0}) (Q old.faults new.faults (Err e))
+  by_memory : (b : Bool) (e : E) → MatchBool b (PerformsPrefix p old new k l) (Performs p old new k l (Err e)) → MatchBool b (Unit {0}) (Q old.faults new.faults (Err e))
   by_memory true e run = tt
   by_memory false e run = performed (Err e) run
 

@@ -4,11 +4,11 @@ use Rattle.std.specs.Prelude.{if◌then◌else◌, find, MatchBool, count_by, un
 use Rattle.std.specs.FinMap as map_of
 use Rattle.std.proofs.lemmas.List.Elements.{All-push, All-cons, All-append}
 use Rattle.std.proofs.lemmas.List.Sums.{sum_by-append}
-use Rattle.json_values.specs.Counts.{Rose}
+use Rattle.json_values.specs.Counts.{Increased}
 use Rattle.oci_names.specs.declared.reference.Reference.{Reference}
 use Rattle.oci_names.specs.Reference.{whole_text, reads_back}
 use Rattle.oci_auth.specs.declared.auth.RegistryAuth.{RegistryAuth}
-use Rattle.oci_auth.specs.declared.memory.Memory.{Memory}
+use Rattle.oci_auth.specs.declared.auth_state.AuthState.{AuthState}
 use Rattle.oci_auth.specs.declared.token_type.RegistryOperation.{RegistryOperation}
 use Rattle.oci_auth.specs.declared.token_type.RegistryOperation.TheVariants as operation
 use Rattle.oci_digests.specs.Names.{digest_text}
@@ -49,17 +49,17 @@ use Rattle.engine_laws.specs.Referrers.{ReferrersCause}
 use Rattle.engine_laws.proofs.ReferrersCauses.{referrers_causes, referrers_no_sink, referrers_fault}
 use Rattle.sig_calls.specs.declared.error.SigstoreError.{SigstoreError}
 use Rattle.sig_calls.specs.declared.error.SigstoreError.TheVariants as sigstore
-use Rattle.sig_calls.specs.declared.wording.Called.{Called}
-use Rattle.sig_calls.specs.declared.wording.Called.TheVariants.{FetchManifest, Pull, PullManifest}
+use Rattle.sig_calls.specs.declared.error_context.Called.{Called}
+use Rattle.sig_calls.specs.declared.error_context.Called.TheVariants.{FetchManifest, Pull, PullManifest}
 use Rattle.sig_calls.specs.Error.{is_memory}
-use Rattle.sig_calls.specs.Wording.{worded, refusal as call_refusal}
+use Rattle.sig_calls.specs.ErrorContext.{with_error_context, refusal as call_refusal}
 use Rattle.sig_settings.specs.Keys.{manifest_key, pull_key, referrers_key}
 use Rattle.sig_calls.specs.Caching.{Cache, cached}
 use Rattle.sig_calls.specs.Clients.{Kept, Plain, Row}
 use Rattle.sig_calls.specs.Calls.{in_words, manifests, images, referrers, manifest_made, image_made, referrers_made, digest_call, manifest_call, image_call, referrers_call}
 use Rattle.cosign_layers.specs.Checks.{input, Input, layer_read}
 use Rattle.cosign_layers.specs.Rejection.{is_memory as is_layer_memory}
-use Rattle.cosign_layers.specs.Standing.{Meaning}
+use Rattle.cosign_layers.specs.Satisfying.{PolicyContext}
 use Rattle.cosign_layers.specs.Trust.{Trust}
 use Rattle.cosign_layers.specs.declared.layer.LayerKind.TheVariants as kinds
 use Rattle.cosign_layers.specs.declared.layer.SignatureLayer.{SignatureLayer}
@@ -74,7 +74,7 @@ use Rattle.cosign_rows.specs.Refusal.{is_memory as of_refusal, refused_as}
 use Rattle.cosign_rows.specs.Search.{payload_type, document_part, tag_layers, or_skipped, tag_by, tag_source, bundle_type, referrer_part, referrer_by, referrer_row, referrers_row, listed_row, referrers_source, trusted_layers, searched}
 use Rattle.cosign_rows.specs.Skips.{in_engine, in_refusal, holds_memory_or_sink, HoldsNoMemoryNorSink, is_engine_fault, is_refused_fault, is_fault, CountsFaults, OnSkipped}
 use Rattle.cosign_rows.specs.Tails.{after_search}
-use Rattle.cosign_rows.specs.Verified.{constrained, is_unconstrained, readable, readable_by, as_whole, part_of, stands_by, standing_by, standing, verified_image, verified}
+use Rattle.cosign_rows.specs.Verified.{constrained, is_unconstrained, readable, readable_by, as_whole, part_of, stands_by, signed_digest, standing, verified_image, verified}
 use Rattle.cosign_rows.specs.declared.found.Part.{Part}
 use Rattle.cosign_rows.specs.declared.found.SkipCause.{SkipCause}
 use Rattle.cosign_rows.specs.declared.found.SkipCause.TheVariants.{NotAReference, FoundIndex, Refused}
@@ -86,7 +86,7 @@ use Rattle.cosign_rows.specs.declared.found.TrustedLayers.{TrustedLayers}
 use Rattle.cosign_rows.specs.declared.pulled.Pulled.{Pulled}
 use Rattle.cosign_rows.specs.declared.refusal.PullRefusal.{PullRefusal}
 use Rattle.cosign_rows.specs.declared.refusal.PullRefusal.TheVariants as refusal
-use Rattle.cosign_rows.specs.declared.standing.Standing.{Standing}
+use Rattle.cosign_rows.specs.declared.signed_digest.SignedDigest.{SignedDigest}
 use Rattle.cosign_laws.proofs.CachedCalls.{cached_counts}
 use Rattle.cosign_laws.proofs.Causes.{rest_of}
 use Rattle.cosign_laws.proofs.Counts.{Counts, Counts-any, Counts-done, Counts-more, Counts-bind, Meets-counts, silent, Runs-meets}
@@ -97,7 +97,7 @@ use Rattle.cosign_laws.proofs.Counts.{Counts, Counts-any, Counts-done, Counts-mo
 pub record Sincere (m n : ℕ) (e : OciDistributionError) : Type 0 where
   pub falls : m ≤ n
   pub no_memory : engine_is_memory e ≡ false → in_engine e ≡ false
-  pub fault : is_engine_fault e ≡ true → Rose m n
+  pub fault : is_engine_fault e ≡ true → Increased m n
 
 abbrev pub EngineCounts : {A : Type 0} → ℕ → ℕ → Result A OciDistributionError → Type 0
 EngineCounts m n (Ok a) = m ≤ n
@@ -120,13 +120,13 @@ only_fault engine_refusal.TransportFault is = refl
 only_fault _ is = absurd (cc is)
 
 -- an error that is a fault, over a run
-pub fault_of : {A : Type 0} (p : Engine A) (k l : Memory) (m n : ℕ) (c : List Exchange) (e : OciDistributionError) → Runs p k m c n l (Err e)
-    → ((old new : Link) → Meets engine_is_memory p old new k l (Err engine_refusal.TransportFault) → Rose old.faults new.faults) → is_engine_fault e ≡ true → Rose m n
+pub fault_of : {A : Type 0} (p : Engine A) (k l : AuthState) (m n : ℕ) (c : List Exchange) (e : OciDistributionError) → Runs p k m c n l (Err e)
+    → ((old new : Link) → Meets engine_is_memory p old new k l (Err engine_refusal.TransportFault) → Increased old.faults new.faults) → is_engine_fault e ≡ true → Increased m n
 fault_of {A} p k l m n c e run rose is = rose (silent m) (silent n) (Runs-meets engine_is_memory p k l m n c engine_refusal.TransportFault refl (subst (λ x. Runs p k m c n l (let r : Result A OciDistributionError = Err x in r)) (only_fault e is) run))
 
 manifest_counts : (s : Context) (image : Reference) (a : RegistryAuth) → Counts EngineCounts (pull_manifest s image a)
 manifest_counts s image a = record { counts = λ k l m n c r run. by_result k l m n c r run } where
-  by_result : (k l : Memory) (m n : ℕ) (c : List Exchange) (r : Result (OciManifest × List ℕ) OciDistributionError) → Runs (pull_manifest s image a) k m c n l r → EngineCounts m n r
+  by_result : (k l : AuthState) (m n : ℕ) (c : List Exchange) (r : Result (OciManifest × List ℕ) OciDistributionError) → Runs (pull_manifest s image a) k m c n l r → EngineCounts m n r
   by_result k l m n c (Ok found) run = Runs-count (pull_manifest s image a) k l m n c (Ok found) run
   by_result k l m n c (Err e) run = record {
     falls = Runs-count (pull_manifest s image a) k l m n c (Err e) run;
@@ -136,7 +136,7 @@ manifest_counts s image a = record { counts = λ k l m n c r run. by_result k l 
 
 image_counts : (s : Context) (image : Reference) (a : RegistryAuth) (accepted : List (List ℕ)) → Counts EngineCounts (pull s image a accepted)
 image_counts s image a accepted = record { counts = λ k l m n c r run. by_result k l m n c r run } where
-  by_result : (k l : Memory) (m n : ℕ) (c : List Exchange) (r : Result ImageData OciDistributionError) → Runs (pull s image a accepted) k m c n l r → EngineCounts m n r
+  by_result : (k l : AuthState) (m n : ℕ) (c : List Exchange) (r : Result ImageData OciDistributionError) → Runs (pull s image a accepted) k m c n l r → EngineCounts m n r
   by_result k l m n c (Ok found) run = Runs-count (pull s image a accepted) k l m n c (Ok found) run
   by_result k l m n c (Err e) run = record {
     falls = Runs-count (pull s image a accepted) k l m n c (Err e) run;
@@ -149,7 +149,7 @@ image_counts s image a accepted = record { counts = λ k l m n c r run. by_resul
 pub record SincereWords (m n : ℕ) (e : SigstoreError) : Type 0 where
   pub falls : m ≤ n
   pub no_memory : is_memory e ≡ false → in_refusal e ≡ false
-  pub fault : is_refused_fault e ≡ true → Rose m n
+  pub fault : is_refused_fault e ≡ true → Increased m n
 
 abbrev pub CallCounts : {A : Type 0} → ℕ → ℕ → Result A SigstoreError → Type 0
 CallCounts m n (Ok a) = m ≤ n
@@ -165,7 +165,7 @@ called_fault FetchManifest text e = refl
 called_fault Pull text e = refl
 called_fault PullManifest text e = refl
 
-pub worded_counts : {A : Type 0} (called : Called) (text : List ℕ) (m n : ℕ) (r : Result A OciDistributionError) → EngineCounts m n r → CallCounts m n (worded called text r)
+pub worded_counts : {A : Type 0} (called : Called) (text : List ℕ) (m n : ℕ) (r : Result A OciDistributionError) → EngineCounts m n r → CallCounts m n (with_error_context called text r)
 worded_counts called text m n (Ok a) h = h
 worded_counts {A} called text m n (Err e) h = by_memory (engine_is_memory e) refl where
   by_memory : (b : Bool) → engine_is_memory e ≡ b → CallCounts {A = A} m n (if b then Err sigstore.WantOfMemory else Err (call_refusal called text e))
@@ -174,8 +174,8 @@ worded_counts {A} called text m n (Err e) h = by_memory (engine_is_memory e) ref
 
 pub words_count : {A : Type 0} (called : Called) (image : Reference) (p : Engine A) → Counts EngineCounts p → Counts CallCounts (in_words called image p)
 unfolding in_words
-words_count called image p h = Counts-bind EngineCounts CallCounts p (λ r. Done (worded called (whole_text image) r)) h
-    (λ m n r at. Counts-done (λ start o b. start ≡ n → CallCounts m o b) (worded called (whole_text image) r) (λ o same. rw same (worded_counts called (whole_text image) m n r at)))
+words_count called image p h = Counts-bind EngineCounts CallCounts p (λ r. Done (with_error_context called (whole_text image) r)) h
+    (λ m n r at. Counts-done (λ start o b. start ≡ n → CallCounts m o b) (with_error_context called (whole_text image) r) (λ o same. rw same (worded_counts called (whole_text image) m n r at)))
 
 -- a call that may return a cached response
 pub kept_counts : {A : Type 0} (cache : Cache A) (key : List ℕ) (now : ℕ) (b : Bool) (p : Plain A) → Counts CallCounts p → Counts CallCounts (cached b cache key now p)
@@ -198,7 +198,7 @@ unfolding image_call
 image_call_counts s image a accepted = kept_counts images (pull_key image a accepted) s.moment (reads_back image) (image_made s image a accepted) (image_made_counts s image a accepted)
 
 pub wider : (m n o : ℕ) (e : SigstoreError) → m ≤ n → SincereWords n o e → SincereWords m o e
-wider m n o e le h = record { falls = omega (arith, le, h.falls); no_memory = h.no_memory; fault = λ is. let rose : Rose n o = h.fault is in omega (arith, le, rose) }
+wider m n o e le h = record { falls = omega (arith, le, h.falls); no_memory = h.no_memory; fault = λ is. let rose : Increased n o = h.fault is in omega (arith, le, rose) }
 
 -- a step, and then what it leads to
 pub call_later : {A : Type 0} (m n o : ℕ) (r : Result A SigstoreError) → m ≤ n → CallCounts n o r → CallCounts m o r
@@ -221,7 +221,7 @@ token_memory s image a c n _ h other = refl
 
 token_counts : (s : Context) (image : Reference) (a : RegistryAuth) (op : RegistryOperation) → Counts EngineCounts (token_given s image a op)
 token_counts s image a op = record { counts = λ k l m n c r run. by_result k l m n c r run } where
-  by_result : (k l : Memory) (m n : ℕ) (c : List Exchange) (r : Result (Option (List ℕ)) OciDistributionError) → Runs (token_given s image a op) k m c n l r → EngineCounts m n r
+  by_result : (k l : AuthState) (m n : ℕ) (c : List Exchange) (r : Result (Option (List ℕ)) OciDistributionError) → Runs (token_given s image a op) k m c n l r → EngineCounts m n r
   by_result k l m n c (Ok found) run = Runs-count (token_given s image a op) k l m n c (Ok found) run
   by_result k l m n c (Err e) run = record {
     falls = Runs-count (token_given s image a op) k l m n c (Err e) run;
@@ -239,7 +239,7 @@ listing_memory x s c n _ h other = refl
 
 listing_counts : (s : Context) (image : Reference) (kind : Option (List ℕ)) → Counts EngineCounts (pull_referrers s image kind)
 listing_counts s image kind = record { counts = λ k l m n c r run. by_result k l m n c r run } where
-  by_result : (k l : Memory) (m n : ℕ) (c : List Exchange) (r : Result OciImageIndex OciDistributionError) → Runs (pull_referrers s image kind) k m c n l r → EngineCounts m n r
+  by_result : (k l : AuthState) (m n : ℕ) (c : List Exchange) (r : Result OciImageIndex OciDistributionError) → Runs (pull_referrers s image kind) k m c n l r → EngineCounts m n r
   by_result k l m n c (Ok index) run = Runs-count (pull_referrers s image kind) k l m n c (Ok index) run
   by_result k l m n c (Err e) run = let cause = (referrers_causes s image kind).shows k l m n c (Err e) run in record {
     falls = Runs-count (pull_referrers s image kind) k l m n c (Err e) run;
@@ -269,10 +269,10 @@ count_one : (x : Skipped) (xs : List Skipped) → count_by is_fault (xs ++ x ∷
 count_one x xs = sum_by-append (λ x. cond (is_fault x) 1 0) xs (x ∷ []) ∙ ap (λ n. count_by is_fault xs + n) (zero-add (cond (is_fault x) 1 0))
 
 -- one more cause, which is a fault only if the count increased
-one_more : (m n o : ℕ) (xs : List Skipped) (x : Skipped) → n ≤ o → Counted m n xs → holds_memory_or_sink x ≡ false → (is_fault x ≡ true → Rose n o) → Counted m o (xs ++ x ∷ [])
+one_more : (m n o : ℕ) (xs : List Skipped) (x : Skipped) → n ≤ o → Counted m n xs → holds_memory_or_sink x ≡ false → (is_fault x ≡ true → Increased n o) → Counted m o (xs ++ x ∷ [])
 one_more m n o xs x le h memory fault = record { no_memory = All-push (λ cause. holds_memory_or_sink cause ≡ false) xs x h.no_memory memory; faults = by_fault (is_fault x) refl } where
   by_fault : (b : Bool) → is_fault x ≡ b → CountsFaults m o (xs ++ x ∷ [])
-  by_fault true is = let one : count_by is_fault (xs ++ x ∷ []) ≡ count_by is_fault xs + 1 = count_one x xs ∙ ap (λ b. count_by is_fault xs + cond b 1 0) is in let rose : Rose n o = fault is in rw one (omega (arith, h.faults, rose))
+  by_fault true is = let one : count_by is_fault (xs ++ x ∷ []) ≡ count_by is_fault xs + 1 = count_one x xs ∙ ap (λ b. count_by is_fault xs + cond b 1 0) is in let rose : Increased n o = fault is in rw one (omega (arith, h.faults, rose))
   by_fault false is = let one : count_by is_fault (xs ++ x ∷ []) ≡ count_by is_fault xs + 0 = count_one x xs ∙ ap (λ b. count_by is_fault xs + cond b 1 0) is in rw one (omega (arith, h.faults, le))
 
 -- from an earlier count
@@ -280,7 +280,7 @@ earlier : (m n o : ℕ) (skipped : List Skipped) → m ≤ n → Counted n o ski
 earlier m n o skipped le h = record { no_memory = h.no_memory; faults = omega (arith, le, h.faults) }
 
 -- one cause
-one_cause : (m n : ℕ) (x : Skipped) → m ≤ n → holds_memory_or_sink x ≡ false → (is_fault x ≡ true → Rose m n) → Counted m n (x ∷ [])
+one_cause : (m n : ℕ) (x : Skipped) → m ≤ n → holds_memory_or_sink x ≡ false → (is_fault x ≡ true → Increased m n) → Counted m n (x ∷ [])
 one_cause m n x le memory fault = one_more m m n [] x le (none_skipped m m (omega arith)) memory fault
 
 -- causes that need no fault
@@ -494,33 +494,33 @@ unfolding part_of
 image_part_skips m p = Counts-bind (λ t q r. Unit {0}) (λ t q r. SkipsNone m r) p (λ r. Done (as_whole r)) (record { counts = λ k l t q c r run. tt })
     (λ t n r u. Counts-done (λ i q b. i ≡ n → SkipsNone m b) (as_whole r) (λ q same. image_skips m r))
 
-pulled_then : (m : ℕ) (stood : Standing) (r : Result Pulled PullRefusal) → SkipsNone m r → Counts {K = Kept} (λ t q b. OfRefusal m q b) (unless_refused (λ pulled. Done (Ok (verified_image stood pulled))) r)
+pulled_then : (m : ℕ) (stood : SignedDigest) (r : Result Pulled PullRefusal) → SkipsNone m r → Counts {K = Kept} (λ t q b. OfRefusal m q b) (unless_refused (λ pulled. Done (Ok (verified_image stood pulled))) r)
 pulled_then m stood (Ok pulled) h = Counts-done (λ t q b. OfRefusal m q b) (Ok (verified_image stood pulled)) (λ q. tt)
 pulled_then m stood (Err e) h = Counts-done (λ t q b. OfRefusal m q b) (Err e) (λ q. h q)
 
-unsatisfied : (m n : ℕ) (found : TrustedLayers) (o : Option SignatureLayer) (e : PullRefusal) → Counted m n found.skipped → standing_by found o ≡ Err e → OnSkipped (Counted m n) e
+unsatisfied : (m n : ℕ) (found : TrustedLayers) (o : Option SignatureLayer) (e : PullRefusal) → Counted m n found.skipped → signed_digest found o ≡ Err e → OnSkipped (Counted m n) e
 unsatisfied m n found (Some signature) e h wrong = absurd (cc wrong)
 unsatisfied m n found None e h wrong = let same : refusal.Unsatisfied found.digest found.collected found.skipped ≡ e = cc wrong in subst (OnSkipped (Counted m n)) same h
 
-module _ {V : Type 0} {H : V → Type 0} (meaning : Meaning V H) (s : Context) (image : Reference) (a : RegistryAuth) (accepted : List (List ℕ)) where
-  stood_then : (m n : ℕ) (found : TrustedLayers) (r : Result Standing PullRefusal) → ((e : PullRefusal) → r ≡ Err e → OnSkipped (Counted m n) e) → Counts (λ t q b. t ≡ n → OfRefusal m q b) (unless_refused (λ stood. part_of (image_row s image (digest_reference image stood.digest) a accepted) >>= λ pulled. Done (Ok (verified_image stood pulled))) r)
+module _ {V : Type 0} {H : V → Type 0} (policy_context : PolicyContext V H) (s : Context) (image : Reference) (a : RegistryAuth) (accepted : List (List ℕ)) where
+  stood_then : (m n : ℕ) (found : TrustedLayers) (r : Result SignedDigest PullRefusal) → ((e : PullRefusal) → r ≡ Err e → OnSkipped (Counted m n) e) → Counts (λ t q b. t ≡ n → OfRefusal m q b) (unless_refused (λ stood. part_of (image_row s image (digest_reference image stood.digest) a accepted) >>= λ pulled. Done (Ok (verified_image stood pulled))) r)
   stood_then m n found (Err e) wrong = Counts-done (λ t q b. t ≡ n → OfRefusal m q b) (Err e) (λ q same. rw same (wrong e refl))
   stood_then m n found (Ok stood) wrong = Counts-bind (λ t p r. SkipsNone m r) (λ t q b. t ≡ n → OfRefusal m q b) (part_of (image_row s image (digest_reference image stood.digest) a accepted)) _ (image_part_skips m (image_row s image (digest_reference image stood.digest) a accepted))
       (λ t p r h. record { counts = λ k l u q c b run same begins. (pulled_then m stood r h).counts k l u q c b run })
 
-  after_counts : (m n : ℕ) (found : TrustedLayers) → Counted m n found.skipped → Counts (λ t q b. t ≡ n → OfRefusal m q b) (after_search meaning s image a accepted found)
+  after_counts : (m n : ℕ) (found : TrustedLayers) → Counted m n found.skipped → Counts (λ t q b. t ≡ n → OfRefusal m q b) (after_search policy_context s image a accepted found)
   unfolding after_search bind
-  after_counts m n found h = stood_then m n found (standing meaning found) (λ e wrong. unsatisfied m n found (find (stands_by meaning) found.collected) e h wrong)
+  after_counts m n found h = stood_then m n found (standing policy_context found) (λ e wrong. unsatisfied m n found (find (stands_by policy_context) found.collected) e h wrong)
 
-  search_then : (m n : ℕ) (r : Result TrustedLayers PullRefusal) → PartCounts m n r → Counts (λ t q b. t ≡ n → OfRefusal m q b) (unless_refused (after_search meaning s image a accepted) r)
+  search_then : (m n : ℕ) (r : Result TrustedLayers PullRefusal) → PartCounts m n r → Counts (λ t q b. t ≡ n → OfRefusal m q b) (unless_refused (after_search policy_context s image a accepted) r)
   search_then m n (Ok found) h = after_counts m n found h
   search_then m n (Err e) h = Counts-done (λ t q b. t ≡ n → OfRefusal m q b) (Err e) (λ q same. h q)
 
-  readable_then : (r : Result (Unit {0}) PullRefusal) → ((P : List Skipped → Type 0) (e : PullRefusal) → r ≡ Err e → OnSkipped P e) → Counts OfRefusal (unless_refused (λ u. part_of (searched meaning.trust s image a) >>= after_search meaning s image a accepted) r)
+  readable_then : (r : Result (Unit {0}) PullRefusal) → ((P : List Skipped → Type 0) (e : PullRefusal) → r ≡ Err e → OnSkipped P e) → Counts OfRefusal (unless_refused (λ u. part_of (searched policy_context.trust s image a) >>= after_search policy_context s image a accepted) r)
   readable_then (Err e) wrong = Counts-done OfRefusal (Err e) (λ m. wrong (Counted m m) e refl)
-  readable_then (Ok u) wrong = Counts-bind PartCounts OfRefusal (part_of (searched meaning.trust s image a)) _ (search_part_counts meaning.trust s image a) (λ m n r h. search_then m n r h)
+  readable_then (Ok u) wrong = Counts-bind PartCounts OfRefusal (part_of (searched policy_context.trust s image a)) _ (search_part_counts policy_context.trust s image a) (λ m n r h. search_then m n r h)
 
-  constrained_then : (r : Result (Unit {0}) PullRefusal) → ((P : List Skipped → Type 0) (e : PullRefusal) → r ≡ Err e → OnSkipped P e) → Counts OfRefusal (unless_refused (λ u. Done (readable image) >>= (λ v. part_of (searched meaning.trust s image a) >>= after_search meaning s image a accepted)) r)
+  constrained_then : (r : Result (Unit {0}) PullRefusal) → ((P : List Skipped → Type 0) (e : PullRefusal) → r ≡ Err e → OnSkipped P e) → Counts OfRefusal (unless_refused (λ u. Done (readable image) >>= (λ v. part_of (searched policy_context.trust s image a) >>= after_search policy_context s image a accepted)) r)
   unfolding bind
   constrained_then (Err e) wrong = Counts-done OfRefusal (Err e) (λ m. wrong (Counted m m) e refl)
   constrained_then (Ok u) wrong = readable_then (readable image) (λ P e is. unreadable_quiet P (reads_back image) e is) where
@@ -532,9 +532,9 @@ module _ {V : Type 0} {H : V → Type 0} (meaning : Meaning V H) (s : Context) (
   empty_quiet P false e is = absurd (cc is)
   empty_quiet P true e is = let same : refusal.EmptyPolicy ≡ e = cc is in subst (OnSkipped P) same tt
 
-  pull_counts : Counts OfRefusal (verified meaning s image a accepted)
+  pull_counts : Counts OfRefusal (verified policy_context s image a accepted)
   unfolding verified after_search bind
-  pull_counts = constrained_then (constrained (is_unconstrained meaning.policy)) (λ P e is. empty_quiet P (is_unconstrained meaning.policy) e is)
+  pull_counts = constrained_then (constrained (is_unconstrained policy_context.policy)) (λ P e is. empty_quiet P (is_unconstrained policy_context.policy) e is)
 
 -- ---- the same for a call
 
@@ -566,14 +566,14 @@ unless_memory P (refusal.RegistryFetchManifestError name e) h = tt
 unless_memory P (refusal.RegistryPullError name e) h = tt
 unless_memory P refusal.WantOfMemory h = tt
 
-module _ {V : Type 0} {H : V → Type 0} (meaning : Meaning V H) (s : Context) (image : Reference) (a : RegistryAuth) (accepted : List (List ℕ)) where
-  pull_counted : {old new : Link} {k l : Kept} (e : PullRefusal) → Meets of_refusal (verified meaning s image a accepted) old new k l (Err e) → OnSkipped (Counted old.faults new.faults) e
-  pull_counted {old} {new} e met = unless_memory (Counted old.faults new.faults) e (Meets-counts OfRefusal (pull_counts meaning s image a accepted) met)
+module _ {V : Type 0} {H : V → Type 0} (policy_context : PolicyContext V H) (s : Context) (image : Reference) (a : RegistryAuth) (accepted : List (List ℕ)) where
+  pull_counted : {old new : Link} {k l : Kept} (e : PullRefusal) → Meets of_refusal (verified policy_context s image a accepted) old new k l (Err e) → OnSkipped (Counted old.faults new.faults) e
+  pull_counted {old} {new} e met = unless_memory (Counted old.faults new.faults) e (Meets-counts OfRefusal (pull_counts policy_context s image a accepted) met)
 
-  pub pull_no_memory : {old new : Link} {k l : Kept} (r : Result VerifiedImage PullRefusal) → Meets of_refusal (verified meaning s image a accepted) old new k l r → IfErr r (λ e. OnSkipped HoldsNoMemoryNorSink e)
+  pub pull_no_memory : {old new : Link} {k l : Kept} (r : Result VerifiedImage PullRefusal) → Meets of_refusal (verified policy_context s image a accepted) old new k l r → IfErr r (λ e. OnSkipped HoldsNoMemoryNorSink e)
   pull_no_memory (Ok v) met = tt
   pull_no_memory (Err e) met = on_skipped e (λ xs h. h.no_memory) (pull_counted e met)
 
-  pub pull_faults : {old new : Link} {k l : Kept} (r : Result VerifiedImage PullRefusal) → Meets of_refusal (verified meaning s image a accepted) old new k l r → IfErr r (λ e. OnSkipped (CountsFaults old.faults new.faults) e)
+  pub pull_faults : {old new : Link} {k l : Kept} (r : Result VerifiedImage PullRefusal) → Meets of_refusal (verified policy_context s image a accepted) old new k l r → IfErr r (λ e. OnSkipped (CountsFaults old.faults new.faults) e)
   pull_faults (Ok v) met = tt
   pull_faults (Err e) met = on_skipped e (λ xs h. h.faults) (pull_counted e met)

@@ -22,9 +22,9 @@ use Rattle.oci_manifests.specs.declared.blob.Config.{Config}
 use Rattle.oci_manifests.specs.declared.blob.ImageLayer.{ImageLayer}
 use Rattle.oci_transport.specs.declared.message.Exchange.{Exchange}
 use Rattle.oci_protocol.specs.Proto.{Proto, Done, ◌>>=◌}
-use Rattle.oci_protocol.specs.Shows.{Shows, WhereOk}
-use Rattle.oci_protocol.proofs.WiderMemory.{Shows-lifted}
-use Rattle.oci_protocol.proofs.RunFacts.{Shows-done, Shows-more, Shows-bind, Shows-next, Shows-step}
+use Rattle.oci_protocol.specs.EveryRun.{EveryRun, WhenOk}
+use Rattle.oci_protocol.proofs.WiderMemory.{EveryRun-lifted}
+use Rattle.oci_protocol.proofs.RunFacts.{EveryRun-done, EveryRun-more, EveryRun-bind, EveryRun-next, EveryRun-step}
 use Rattle.engine_terms.specs.Contexts.{Context}
 use Rattle.engine_requests.specs.Sources.{Layer, described}
 use Rattle.engine_terms.specs.declared.error.OciDistributionError.{OciDistributionError}
@@ -46,9 +46,9 @@ use Rattle.engine_laws.proofs.BlobAnswers.{blob_shows}
 use Rattle.engine_laws.proofs.DigestAnswers.{digest_shows}
 use Rattle.sig_calls.specs.declared.error.SigstoreError.{SigstoreError}
 use Rattle.sig_calls.specs.declared.error.SigstoreError.TheVariants as sigstore
-use Rattle.sig_calls.specs.declared.wording.Called.{Called}
-use Rattle.sig_calls.specs.declared.wording.Called.TheVariants.{FetchManifest, Pull}
-use Rattle.sig_calls.specs.Wording.{worded, refusal}
+use Rattle.sig_calls.specs.declared.error_context.Called.{Called}
+use Rattle.sig_calls.specs.declared.error_context.Called.TheVariants.{FetchManifest, Pull}
+use Rattle.sig_calls.specs.ErrorContext.{with_error_context, refusal}
 use Rattle.sig_calls.specs.Clients.{Kept, Row}
 use Rattle.sig_calls.specs.Calls.{in_words, digest_made, document_made, blob_made, document_call, blob_call}
 use Rattle.cosign_rows.specs.declared.pulled.Pulled.{Pulled}
@@ -63,9 +63,9 @@ use Rattle.cosign_laws.proofs.DocumentTexts.{both, document_is, entry_is}
 
 -- the property holds for the exchanges and the result, if there is one
 abbrev pub Seen : {A E : Type 0} → (List Exchange → A → Type 0) → ℕ → List Exchange → ℕ → Result A E → Type 0
-Seen P = WhereOk (λ m c n a. P c a)
+Seen P = WhenOk (λ m c n a. P c a)
 
-worded_seen : {A : Type 0} (P : List Exchange → A → Type 0) (called : Called) (text : List ℕ) (m n o : ℕ) (c : List Exchange) (r : Result A OciDistributionError) → Seen P m c n r → Seen P m (c ++ []) o (worded called text r)
+worded_seen : {A : Type 0} (P : List Exchange → A → Type 0) (called : Called) (text : List ℕ) (m n o : ℕ) (c : List Exchange) (r : Result A OciDistributionError) → Seen P m c n r → Seen P m (c ++ []) o (with_error_context called text r)
 worded_seen P called text m n o c (Ok a) h = rw append-nil h
 worded_seen {A} P called text m n o c (Err e) h = by_memory (engine_is_memory e) where
   by_memory : (b : Bool) → Seen {A = A} {E = SigstoreError} P m (c ++ []) o (if b then Err sigstore.WantOfMemory else Err (refusal called text e))
@@ -73,12 +73,12 @@ worded_seen {A} P called text m n o c (Err e) h = by_memory (engine_is_memory e)
   by_memory false = tt
 
 -- a call with context has the properties of the engine's call
-words_show : {A : Type 0} (P : List Exchange → A → Type 0) (called : Called) (image : Reference) (p : Engine A) → Shows (Seen P) p → Shows (Seen P) (in_words called image p)
+words_show : {A : Type 0} (P : List Exchange → A → Type 0) (called : Called) (image : Reference) (p : Engine A) → EveryRun (Seen P) p → EveryRun (Seen P) (in_words called image p)
 unfolding in_words
-words_show P called image p h = Shows-bind (Seen P) (Seen P) p (λ r. Done (worded called (whole_text image) r)) h
-    (λ m n c r at. Shows-done (λ s d o b. Seen P m (c ++ d) o b) (worded called (whole_text image) r) (λ o. worded_seen P called (whole_text image) m n o c r at))
+words_show P called image p h = EveryRun-bind (Seen P) (Seen P) p (λ r. Done (with_error_context called (whole_text image) r)) h
+    (λ m n c r at. EveryRun-done (λ s d o b. Seen P m (c ++ d) o b) (with_error_context called (whole_text image) r) (λ o. worded_seen P called (whole_text image) m n o c r at))
 
-pub digest_made_shows : (s : Context) (image : Reference) (a : RegistryAuth) → Shows (Seen (DigestAnswered s.settings image)) (digest_made s image a)
+pub digest_made_shows : (s : Context) (image : Reference) (a : RegistryAuth) → EveryRun (Seen (DigestAnswered s.settings image)) (digest_made s image a)
 unfolding digest_made
 digest_made_shows s image a = words_show (DigestAnswered s.settings image) FetchManifest image (fetch_manifest_digest s image a) (digest_shows s image a)
 
@@ -86,40 +86,40 @@ digest_made_shows s image a = words_show (DigestAnswered s.settings image) Fetch
 abbrev IsDocument : Reference → List Exchange → List ℕ × List ℕ → Type 0
 IsDocument image c found = Document image c found.0 found.1
 
-document_call_shows : (s : Context) (image : Reference) (a : RegistryAuth) (types : List ℕ) → Shows (Seen (IsDocument image)) (document_call s image a types)
+document_call_shows : (s : Context) (image : Reference) (a : RegistryAuth) (types : List ℕ) → EveryRun (Seen (IsDocument image)) (document_call s image a types)
 unfolding document_call document_made
-document_call_shows s image a types = Shows-lifted (Seen (IsDocument image)) (document_made s image a types) (words_show (IsDocument image) Pull image (pull_manifest_raw s image a types) (raw_shows s image a types))
+document_call_shows s image a types = EveryRun-lifted (Seen (IsDocument image)) (document_made s image a types) (words_show (IsDocument image) Pull image (pull_manifest_raw s image a types) (raw_shows s image a types))
 
 -- the bytes of the last answer, which the digest names
 abbrev IsBlob : List ℕ → List Exchange → List ℕ → Type 0
 IsBlob digest c bytes = Body c bytes × Names digest bytes × LastBody c bytes
 
-blob_call_shows : (s : Context) (image : Reference) (layer : Layer) → Shows (Seen (IsBlob layer.digest)) (blob_call s image layer)
+blob_call_shows : (s : Context) (image : Reference) (layer : Layer) → EveryRun (Seen (IsBlob layer.digest)) (blob_call s image layer)
 unfolding blob_call blob_made
-blob_call_shows s image layer = Shows-lifted (Seen (IsBlob layer.digest)) (blob_made s image layer) (words_show (IsBlob layer.digest) Pull image (held_blob s image layer) (blob_shows IntoMemory s image layer))
+blob_call_shows s image layer = EveryRun-lifted (Seen (IsBlob layer.digest)) (blob_made s image layer) (words_show (IsBlob layer.digest) Pull image (held_blob s image layer) (blob_shows IntoMemory s image layer))
 
 -- a step, and what it leads to, after what was seen before
-pub next_seen : {A B E : Type 0} (P : List Exchange → A → Type 0) (Q : List Exchange → B → Type 0) (p : Proto Kept (Result A E)) (f : A → Proto Kept (Result B E)) → Shows (Seen P) p → ((c : List Exchange) (a : A) → P c a → Shows (Seen (λ d b. Q (c ++ d) b)) (f a)) → Shows (Seen Q) (p >>= f)
-next_seen {B = B} {E = E} P Q p f h each = Shows-next (λ m c n a. P c a) (λ m c n b. Q c b) p f h (λ m n c a at. Shows-more (Seen (λ d b. Q (c ++ d) b)) (λ s d o b. Seen Q m (c ++ d) o b) (f a) (each c a at) (λ s o d b seen. moved c m s o d b seen)) where
+pub next_seen : {A B E : Type 0} (P : List Exchange → A → Type 0) (Q : List Exchange → B → Type 0) (p : Proto Kept (Result A E)) (f : A → Proto Kept (Result B E)) → EveryRun (Seen P) p → ((c : List Exchange) (a : A) → P c a → EveryRun (Seen (λ d b. Q (c ++ d) b)) (f a)) → EveryRun (Seen Q) (p >>= f)
+next_seen {B = B} {E = E} P Q p f h each = EveryRun-next (λ m c n a. P c a) (λ m c n b. Q c b) p f h (λ m n c a at. EveryRun-more (Seen (λ d b. Q (c ++ d) b)) (λ s d o b. Seen Q m (c ++ d) o b) (f a) (each c a at) (λ s o d b seen. moved c m s o d b seen)) where
   moved : (c : List Exchange) (m s o : ℕ) (d : List Exchange) (b : Result B E) → Seen (λ d b. Q (c ++ d) b) s d o b → Seen Q m (c ++ d) o b
   moved c m s o d (Ok b) h = h
   moved c m s o d (Err e) h = tt
 
 -- a step without a request
-pub step_seen : {A B E : Type 0} (Q : List Exchange → B → Type 0) (r : Result A E) (f : A → Proto Kept (Result B E)) → ((a : A) → r ≡ Ok a → Shows (Seen Q) (f a)) → Shows (Seen Q) (Done r >>= f)
-step_seen Q r f each = Shows-step (Seen Q) r f each (λ e is m. tt)
+pub step_seen : {A B E : Type 0} (Q : List Exchange → B → Type 0) (r : Result A E) (f : A → Proto Kept (Result B E)) → ((a : A) → r ≡ Ok a → EveryRun (Seen Q) (f a)) → EveryRun (Seen Q) (Done r >>= f)
+step_seen Q r f each = EveryRun-step (Seen Q) r f each (λ e is m. tt)
 
-pub done_seen : {A E : Type 0} (Q : List Exchange → A → Type 0) (a : A) → Q [] a → Shows {K = Kept} {A = Result A E} (Seen Q) (Done (Ok a))
-done_seen Q a h = Shows-done (Seen Q) (Ok a) (λ m. h)
+pub done_seen : {A E : Type 0} (Q : List Exchange → A → Type 0) (a : A) → Q [] a → EveryRun {K = Kept} {A = Result A E} (Seen Q) (Done (Ok a))
+done_seen Q a h = EveryRun-done (Seen Q) (Ok a) (λ m. h)
 
-pub more_seen : {A : Type 0} (P Q : List Exchange → A → Type 0) (p : Row A) → Shows (Seen P) p → ((c : List Exchange) (a : A) → P c a → Q c a) → Shows (Seen Q) p
-more_seen {A} P Q p h more = Shows-more (Seen P) (Seen Q) p h each where
+pub more_seen : {A : Type 0} (P Q : List Exchange → A → Type 0) (p : Row A) → EveryRun (Seen P) p → ((c : List Exchange) (a : A) → P c a → Q c a) → EveryRun (Seen Q) p
+more_seen {A} P Q p h more = EveryRun-more (Seen P) (Seen Q) p h each where
   each : (m n : ℕ) (c : List Exchange) (r : Result A SigstoreError) → Seen P m c n r → Seen Q m c n r
   each m n c (Ok a) h = more c a h
   each m n c (Err e) h = tt
 
 -- a step with context that succeeded
-worded_ok : {A : Type 0} (called : Called) (text : List ℕ) (r : Result A OciDistributionError) (a : A) → worded called text r ≡ Ok a → r ≡ Ok a
+worded_ok : {A : Type 0} (called : Called) (text : List ℕ) (r : Result A OciDistributionError) (a : A) → with_error_context called text r ≡ Ok a → r ≡ Ok a
 worded_ok called text (Ok x) a is = let same : x ≡ a = cc is in ap Ok same
 worded_ok {A} called text (Err e) a is = by_memory (engine_is_memory e) is where
   by_memory : (b : Bool) → (if b then Err sigstore.WantOfMemory else Err (refusal called text e)) ≡ Ok a → (let r : Result A OciDistributionError = Err e in r) ≡ Ok a
@@ -162,7 +162,7 @@ one_more x xs got content c d all blob rest = record {
   layers = (record { body = body_before d blob.0; named = blob.1; media_type = refl; annotations = refl }, layers_after c d xs rest.more rest.layers);
 }
 
-layers_show : (s : Context) (source : Reference) (xs : List OciDescriptor) (got : List ImageLayer) → Shows (Seen (Behind xs got)) (layers_row s source xs got)
+layers_show : (s : Context) (source : Reference) (xs : List OciDescriptor) (got : List ImageLayer) → EveryRun (Seen (Behind xs got)) (layers_row s source xs got)
 unfolding layers_row
 layers_show s source [] got = done_seen (Behind [] got) got (record { more = []; is = sym (append-nil got); layers = tt })
 layers_show s source (x ∷ xs) got = next_seen (IsBlob x.digest) (Behind (x ∷ xs) got) (blob_call s source (described x)) (λ content. layers_row s source xs (got ++ layer_of x content ∷ [])) (blob_call_shows s source (described x))
@@ -240,11 +240,11 @@ has_blobs accepted manifest c d content layers u blob allowed behind =
       layer_bodies = rw same (bodies_of (c ++ (d ++ [])) manifest.layers behind.more (layers_after c (d ++ []) manifest.layers behind.more (rw append-nil behind.layers)));
     }
 
-blobs_show : (s : Context) (source : Reference) (accepted : List (List ℕ)) (manifest : OciImageManifest) → Shows (Seen (HasBlobs accepted manifest)) (blobs_row s source accepted manifest)
+blobs_show : (s : Context) (source : Reference) (accepted : List (List ℕ)) (manifest : OciImageManifest) → EveryRun (Seen (HasBlobs accepted manifest)) (blobs_row s source accepted manifest)
 unfolding blobs_row
 blobs_show s source accepted manifest =
     next_seen (IsBlob manifest.config.digest) (HasBlobs accepted manifest) (blob_call s source (described manifest.config)) _ (blob_call_shows s source (described manifest.config)) (λ c content blob.
-    step_seen (λ d b. HasBlobs accepted manifest (c ++ d) b) (worded Pull (whole_text source) (layers_accepted accepted manifest.layers)) _ (λ u allowed.
+    step_seen (λ d b. HasBlobs accepted manifest (c ++ d) b) (with_error_context Pull (whole_text source) (layers_accepted accepted manifest.layers)) _ (λ u allowed.
     next_seen (Behind manifest.layers []) (λ d b. HasBlobs accepted manifest (c ++ d) b) (layers_row s source manifest.layers []) _ (layers_show s source manifest.layers []) (λ d layers behind.
     done_seen (λ e b. HasBlobs accepted manifest (c ++ (d ++ e)) b) (config_of manifest content, layers)
     (has_blobs accepted manifest c d content layers u blob (worded_ok Pull (whole_text source) (layers_accepted accepted manifest.layers) u allowed) behind))))
@@ -265,10 +265,10 @@ with_seen P text m n o c (Err (sigstore.RegistryPullError t e)) h = tt
 with_seen P text m n o c (Err (sigstore.RegistryPullManifestError t e)) h = tt
 with_seen P text m n o c (Err sigstore.WantOfMemory) h = tt
 
-entry_call_shows : (s : Context) (source : Reference) (a : RegistryAuth) (entry : List ℕ) → Shows (Seen (IsDocument (entry_reference source entry))) (entry_call s source a entry)
+entry_call_shows : (s : Context) (source : Reference) (a : RegistryAuth) (entry : List ℕ) → EveryRun (Seen (IsDocument (entry_reference source entry))) (entry_call s source a entry)
 unfolding entry_call
-entry_call_shows s source a entry = Shows-bind (Seen (IsDocument (entry_reference source entry))) (Seen (IsDocument (entry_reference source entry))) (document_call s (entry_reference source entry) a manifest_types) (λ r. Done (with_image (whole_text source) r)) (document_call_shows s (entry_reference source entry) a manifest_types)
-    (λ m n c r at. Shows-done (λ t d o b. Seen (IsDocument (entry_reference source entry)) m (c ++ d) o b) (with_image (whole_text source) r) (λ o. with_seen (IsDocument (entry_reference source entry)) (whole_text source) m n o c r at))
+entry_call_shows s source a entry = EveryRun-bind (Seen (IsDocument (entry_reference source entry))) (Seen (IsDocument (entry_reference source entry))) (document_call s (entry_reference source entry) a manifest_types) (λ r. Done (with_image (whole_text source) r)) (document_call_shows s (entry_reference source entry) a manifest_types)
+    (λ m n c r at. EveryRun-done (λ t d o b. Seen (IsDocument (entry_reference source entry)) m (c ++ d) o b) (with_image (whole_text source) r) (λ o. with_seen (IsDocument (entry_reference source entry)) (whole_text source) m n o c r at))
 
 -- the manifest of an entry that the promise picks
 record OfEntry (promise : Option ResolverPromise) (entries : List ImageIndexEntry) (p : PulledManifest) : Type 0 where
@@ -291,12 +291,12 @@ entry_seen promise entries source entry c d found manifest is document read =
       body = body_before d document.body;
     }
 
-entry_shows : (s : Context) (source : Reference) (a : RegistryAuth) (entries : List ImageIndexEntry) → Shows (Seen (SeenEntry s.settings.platform_resolver entries)) (entry_row s source a entries)
+entry_shows : (s : Context) (source : Reference) (a : RegistryAuth) (entries : List ImageIndexEntry) → EveryRun (Seen (SeenEntry s.settings.platform_resolver entries)) (entry_row s source a entries)
 unfolding entry_row
 entry_shows s source a entries =
-    step_seen (SeenEntry s.settings.platform_resolver entries) (worded Pull (whole_text source) (entry_found s.settings.platform_resolver entries)) _ (λ entry found.
+    step_seen (SeenEntry s.settings.platform_resolver entries) (with_error_context Pull (whole_text source) (entry_found s.settings.platform_resolver entries)) _ (λ entry found.
     next_seen (IsDocument (entry_reference source entry)) (SeenEntry s.settings.platform_resolver entries) (entry_call s source a entry) _ (entry_call_shows s source a entry) (λ c document at.
-    step_seen (λ d p. SeenEntry s.settings.platform_resolver entries (c ++ d) p) (worded Pull (whole_text source) (entry_in entry document.0)) _ (λ manifest read.
+    step_seen (λ d p. SeenEntry s.settings.platform_resolver entries (c ++ d) p) (with_error_context Pull (whole_text source) (entry_in entry document.0)) _ (λ manifest read.
     done_seen (λ d p. SeenEntry s.settings.platform_resolver entries (c ++ d) p) (record { bytes = document.0; manifest = manifest; entry = Some entry })
     (entry_seen s.settings.platform_resolver entries source entry c [] document manifest (worded_ok Pull (whole_text source) (entry_found s.settings.platform_resolver entries) entry found) at (worded_ok Pull (whole_text source) (entry_in entry document.0) manifest read)))))
 
@@ -334,7 +334,7 @@ record HasManifest (promise : Option ResolverPromise) (first : List ℕ) (c : Li
   leads : Leads promise first p
   bytes : (p.bytes ≡ first) ⊎ Body c p.bytes
 
-manifest_shows : (s : Context) (source : Reference) (a : RegistryAuth) (first : List ℕ) (document : OciManifest) → document_read first ≡ Ok document → Shows (Seen (HasManifest s.settings.platform_resolver first)) (manifest_row s source a first document)
+manifest_shows : (s : Context) (source : Reference) (a : RegistryAuth) (first : List ℕ) (document : OciManifest) → document_read first ≡ Ok document → EveryRun (Seen (HasManifest s.settings.platform_resolver first)) (manifest_row s source a first document)
 manifest_shows s source a first (Image manifest) is = done_seen (HasManifest s.settings.platform_resolver first) (record { bytes = first; manifest = manifest; entry = None })
     (record { leads = first_leads s.settings.platform_resolver first (record { bytes = first; manifest = manifest; entry = None }) (record { reads = document_is first (Image manifest) is; bytes = refl; none = refl }); bytes = inl refl })
 manifest_shows s source a first (ImageIndex index) is = more_seen (SeenEntry s.settings.platform_resolver index.manifests) (HasManifest s.settings.platform_resolver first) (entry_row s source a index.manifests) (entry_shows s source a index.manifests)
@@ -361,10 +361,10 @@ manifest_body first bytes c d e body (inr own) = body_after c (body_before e own
 abbrev Linked : Context → Reference → List ℕ → List (List ℕ) → List Exchange → Pulled → Type 0
 Linked s image digest accepted = Links s.settings.platform_resolver image digest accepted
 
-pub image_shows : (s : Context) (image source : Reference) (digest : List ℕ) (a : RegistryAuth) (accepted : List (List ℕ)) → digest_of source ≡ Some digest → Shows (Seen (Links s.settings.platform_resolver image digest accepted)) (image_row s image source a accepted)
+pub image_shows : (s : Context) (image source : Reference) (digest : List ℕ) (a : RegistryAuth) (accepted : List (List ℕ)) → digest_of source ≡ Some digest → EveryRun (Seen (Links s.settings.platform_resolver image digest accepted)) (image_row s image source a accepted)
 unfolding image_row
 image_shows s image source digest a accepted is = next_seen (IsDocument source) (Linked s image digest accepted) (document_call s source a manifest_types) _ (document_call_shows s source a manifest_types) (λ c found document.
-    step_seen (λ d p. Linked s image digest accepted (c ++ d) p) (worded Pull (whole_text source) (document_in image found.0)) _ (λ read worded_read.
+    step_seen (λ d p. Linked s image digest accepted (c ++ d) p) (with_error_context Pull (whole_text source) (document_in image found.0)) _ (λ read worded_read.
     let asked = both (named_by_reference (digest_of image) found.0) (λ u. document_read found.0) read (worded_ok Pull (whole_text source) (document_in image found.0) read worded_read) in
     next_seen (HasManifest s.settings.platform_resolver found.0) (λ d p. Linked s image digest accepted (c ++ d) p) (manifest_row s source a found.0 read) _ (manifest_shows s source a found.0 read asked.2) (λ d chosen has.
     next_seen (HasBlobs accepted chosen.manifest) (λ e p. Linked s image digest accepted (c ++ (d ++ e)) p) (blobs_row s source accepted chosen.manifest) _ (blobs_show s source accepted chosen.manifest) (λ e blobs got.

@@ -2,12 +2,12 @@
 use Rattle.std.proofs.Common.{◌≡◌, ◌≤◌, ℕ, Bool, true, false, List, [], ◌∷◌, ◌++◌, Option, Some, None, Result, Ok, Err, refl, sym, ap, ◌∙◌, subst, arith}
 use Rattle.std.specs.Prelude.{if◌then◌else◌, bytes_eq, ok_or, find, MatchBool, pos}
 use Rattle.std.specs.Ordering.{int_eq}
-use Rattle.json_values.specs.Counts.{Rose}
+use Rattle.json_values.specs.Counts.{Increased}
 use Rattle.json_values.specs.JsonText.{json_of}
 use Rattle.oci_names.specs.declared.reference.Reference.{Reference}
 use Rattle.oci_names.specs.Reference.{digest_of, whole_text, reads_back}
 use Rattle.oci_auth.specs.declared.auth.RegistryAuth.{RegistryAuth}
-use Rattle.oci_auth.specs.declared.memory.Memory.{Memory}
+use Rattle.oci_auth.specs.declared.auth_state.AuthState.{AuthState}
 use Rattle.oci_digests.specs.Checks.{checked, checked_by, and_then}
 use Rattle.oci_digests.specs.Names.{digest_text}
 use Rattle.oci_digests.specs.Checks.{parts_of, algorithm_of, named_by}
@@ -25,7 +25,7 @@ use Rattle.oci_transport.specs.Link.{Link}
 use Rattle.oci_transport.specs.declared.message.Exchange.{Exchange}
 use Rattle.oci_protocol.specs.Proto.{Done, unless_refused, ◌>>=◌}
 use Rattle.oci_protocol.specs.Runs.{Runs, Meets}
-use Rattle.oci_protocol.specs.Shows.{Shows, ByAnswer}
+use Rattle.oci_protocol.specs.EveryRun.{EveryRun, ByResult}
 use Rattle.oci_protocol.proofs.Laws.{Runs-count}
 use Rattle.engine_terms.specs.Contexts.{Context}
 use Rattle.engine_requests.specs.Sources.{Layer, described}
@@ -54,13 +54,13 @@ use Rattle.engine_laws.proofs.CallCauses.{digest_fault, raw_fault, blob_fault}
 use Rattle.engine_laws.proofs.DigestCauses.{digest_causes}
 use Rattle.sig_calls.specs.declared.error.SigstoreError.{SigstoreError}
 use Rattle.sig_calls.specs.declared.error.SigstoreError.TheVariants as sigstore
-use Rattle.sig_calls.specs.declared.wording.Called.TheVariants.{FetchManifest, Pull}
+use Rattle.sig_calls.specs.declared.error_context.Called.TheVariants.{FetchManifest, Pull}
 use Rattle.sig_calls.specs.Error.{is_memory, registry_refusal, FaultCounted as SearchFaultCounted, NoSinkFault as NoSinkInSearch}
-use Rattle.sig_calls.specs.Wording.{worded}
+use Rattle.sig_calls.specs.ErrorContext.{with_error_context}
 use Rattle.sig_calls.specs.Clients.{Kept, Row}
 use Rattle.sig_settings.specs.Keys.{manifest_key}
 use Rattle.sig_calls.specs.Calls.{digests, digest_made, document_made, blob_made, digest_call, manifest_call, image_call, document_call, blob_call, referrers_call}
-use Rattle.cosign_layers.specs.Standing.{Meaning}
+use Rattle.cosign_layers.specs.Satisfying.{PolicyContext}
 use Rattle.cosign_layers.specs.Trust.{Trust}
 use Rattle.cosign_layers.specs.declared.layer.SignatureLayer.{SignatureLayer}
 use Rattle.cosign_chain.specs.declared.image.VerifiedImage.{VerifiedImage}
@@ -71,7 +71,7 @@ use Rattle.cosign_rows.specs.Refusal.{is_memory as of_refusal, refused_as, clien
 use Rattle.cosign_rows.specs.Search.{payload_type, document_part, tag_layers, or_skipped, tag_by, tag_source, bundle_type, referrer_part, referrer_by, referrer_row, referrers_row, listed_row, referrers_source, trusted_layers, searched}
 use Rattle.cosign_rows.specs.Skips.{in_engine, is_engine_fault}
 use Rattle.cosign_rows.specs.Tails.{after_search}
-use Rattle.cosign_rows.specs.Verified.{Whole, constrained, is_unconstrained, readable, readable_by, as_whole, part_of, stands_by, standing_by, standing, verified_image, verified}
+use Rattle.cosign_rows.specs.Verified.{Whole, constrained, is_unconstrained, readable, readable_by, as_whole, part_of, stands_by, signed_digest, standing, verified_image, verified}
 use Rattle.cosign_rows.specs.declared.found.Part.{Part}
 use Rattle.cosign_rows.specs.declared.found.SkipCause.{SkipCause}
 use Rattle.cosign_rows.specs.declared.found.SkipCause.TheVariants.{Refused}
@@ -99,12 +99,12 @@ blob_memory T s digest c n (engine_refusal.DigestError digest_refusal.WantOfMemo
 blob_memory T s digest c n _ h other = refl
 
 -- a call whose errors have their causes
-engine_counts : {A : Type 0} (P : ℕ → List Exchange → ℕ → A → Type 0) (Why : ℕ → List Exchange → ℕ → OciDistributionError → Type 0) (p : Engine A) → Shows (ByAnswer P Why) p
+engine_counts : {A : Type 0} (P : ℕ → List Exchange → ℕ → A → Type 0) (Why : ℕ → List Exchange → ℕ → OciDistributionError → Type 0) (p : Engine A) → EveryRun (ByResult P Why) p
     → ((m n : ℕ) (c : List Exchange) (e : OciDistributionError) → Why m c n e → engine_is_memory e ≡ false → in_engine e ≡ false)
-    → ((old new : Link) (k l : Memory) → Meets engine_is_memory p old new k l (Err engine_refusal.TransportFault) → Rose old.faults new.faults)
+    → ((old new : Link) (k l : AuthState) → Meets engine_is_memory p old new k l (Err engine_refusal.TransportFault) → Increased old.faults new.faults)
     → Counts EngineCounts p
 engine_counts {A} P Why p causes memory fault = record { counts = λ k l m n c r run. by_result k l m n c r run } where
-  by_result : (k l : Memory) (m n : ℕ) (c : List Exchange) (r : Result A OciDistributionError) → Runs p k m c n l r → EngineCounts m n r
+  by_result : (k l : AuthState) (m n : ℕ) (c : List Exchange) (r : Result A OciDistributionError) → Runs p k m c n l r → EngineCounts m n r
   by_result k l m n c (Ok a) run = Runs-count p k l m n c (Ok a) run
   by_result k l m n c (Err e) run = record {
     falls = Runs-count p k l m n c (Err e) run;
@@ -253,8 +253,8 @@ answered : {A : Type 0} (a : A) → Counts {K = Kept} {A = Result A SigstoreErro
 answered a = Counts-done CallCounts (Ok a) (λ m. omega arith)
 
 -- a step of the engine without a request, with context
-said : {A : Type 0} (text : List ℕ) (r : Result A OciDistributionError) → OfBytes r → Counts {K = Kept} CallCounts (Done (worded Pull text r))
-said text r h = Counts-done CallCounts (worded Pull text r) (λ m. worded_counts Pull text m m r (still_counts m r h))
+said : {A : Type 0} (text : List ℕ) (r : Result A OciDistributionError) → OfBytes r → Counts {K = Kept} CallCounts (Done (with_error_context Pull text r))
+said text r h = Counts-done CallCounts (with_error_context Pull text r) (λ m. worded_counts Pull text m m r (still_counts m r h))
 
 layers_counts : (s : Context) (source : Reference) (xs : List OciDescriptor) (layers : List ImageLayer) → Counts CallCounts (layers_row s source xs layers)
 unfolding layers_row
@@ -265,7 +265,7 @@ blobs_counts : (s : Context) (source : Reference) (accepted : List (List ℕ)) (
 unfolding blobs_row
 blobs_counts s source accepted manifest =
     next (blob_call s source (described manifest.config)) _ (blob_call_counts s source (described manifest.config)) (λ content.
-    next (Done (worded Pull (whole_text source) (layers_accepted accepted manifest.layers))) _ (said (whole_text source) (layers_accepted accepted manifest.layers) (layers_bytes accepted manifest.layers)) (λ u.
+    next (Done (with_error_context Pull (whole_text source) (layers_accepted accepted manifest.layers))) _ (said (whole_text source) (layers_accepted accepted manifest.layers) (layers_bytes accepted manifest.layers)) (λ u.
     next (layers_row s source manifest.layers []) _ (layers_counts s source manifest.layers []) (λ layers.
     answered _)))
 
@@ -285,9 +285,9 @@ entry_call_counts s source a entry = Counts-bind CallCounts CallCounts (document
 entry_counts : (s : Context) (source : Reference) (a : RegistryAuth) (entries : List ImageIndexEntry) → Counts CallCounts (entry_row s source a entries)
 unfolding entry_row
 entry_counts s source a entries =
-    next (Done (worded Pull (whole_text source) (entry_found s.settings.platform_resolver entries))) _ (said (whole_text source) (entry_found s.settings.platform_resolver entries) (entry_found_bytes s.settings.platform_resolver entries)) (λ entry.
+    next (Done (with_error_context Pull (whole_text source) (entry_found s.settings.platform_resolver entries))) _ (said (whole_text source) (entry_found s.settings.platform_resolver entries) (entry_found_bytes s.settings.platform_resolver entries)) (λ entry.
     next (entry_call s source a entry) _ (entry_call_counts s source a entry) (λ found.
-    next (Done (worded Pull (whole_text source) (entry_in entry found.0))) _ (said (whole_text source) (entry_in entry found.0) (entry_in_bytes entry found.0)) (λ manifest.
+    next (Done (with_error_context Pull (whole_text source) (entry_in entry found.0))) _ (said (whole_text source) (entry_in entry found.0) (entry_in_bytes entry found.0)) (λ manifest.
     answered _)))
 
 manifest_counts_row : (s : Context) (source : Reference) (a : RegistryAuth) (first : List ℕ) (document : OciManifest) → Counts CallCounts (manifest_row s source a first document)
@@ -298,7 +298,7 @@ image_row_counts : (s : Context) (image source : Reference) (a : RegistryAuth) (
 unfolding image_row
 image_row_counts s image source a accepted =
     next (document_call s source a manifest_types) _ (document_call_counts s source a manifest_types) (λ found.
-    next (Done (worded Pull (whole_text source) (document_in image found.0))) _ (said (whole_text source) (document_in image found.0) (document_in_bytes image found.0)) (λ document.
+    next (Done (with_error_context Pull (whole_text source) (document_in image found.0))) _ (said (whole_text source) (document_in image found.0) (document_in_bytes image found.0)) (λ document.
     next (manifest_row s source a found.0 document) _ (manifest_counts_row s source a found.0 document) (λ chosen.
     next (blobs_row s source accepted chosen.manifest) _ (blobs_counts s source accepted chosen.manifest) (λ blobs.
     answered _))))
@@ -369,7 +369,7 @@ search_counts trust s image a =
     next (tag_source trust s image a digest) _ (tag_counts trust s image a digest) (λ tag.
     next (referrers_source trust digest s (digest_reference image digest) a) _ (referrers_source_counts trust digest s (digest_reference image digest) a) (λ more. answered (trusted_layers digest (appended tag more))))))
 
-words_fault : (m n : ℕ) (e : SigstoreError) → SincereWords m n e → registry_refusal e ≡ Some engine_refusal.TransportFault → Rose m n
+words_fault : (m n : ℕ) (e : SigstoreError) → SincereWords m n e → registry_refusal e ≡ Some engine_refusal.TransportFault → Increased m n
 words_fault m n (sigstore.OciReferenceNotValidError text) h is = absurd (cc is)
 words_fault m n (sigstore.RegistryFetchManifestError image e) h is = let same : e ≡ engine_refusal.TransportFault = cc is in h.fault (ap is_engine_fault same)
 words_fault m n (sigstore.RegistryPullError image e) h is = let same : e ≡ engine_refusal.TransportFault = cc is in h.fault (ap is_engine_fault same)
@@ -399,7 +399,7 @@ search_said P m n x (sigstore.RegistryPullManifestError image e) so h is = so h 
 
 pub search_fault : (trust : Trust) (s : Context) (image : Reference) (a : RegistryAuth) {old new : Link} {k l : Kept} (r : Result TrustedLayers SigstoreError) → Meets is_memory (searched trust s image a) old new k l r → SearchFaultCounted old new r
 search_fault trust s image a (Ok found) met held = absurd held
-search_fault trust s image a {old} {new} (Err e) met held = search_said (λ x. Rose old.faults new.faults) old.faults new.faults engine_refusal.TransportFault e (words_fault old.faults new.faults e) (Meets-counts CallCounts (search_counts trust s image a) met) held
+search_fault trust s image a {old} {new} (Err e) met held = search_said (λ x. Increased old.faults new.faults) old.faults new.faults engine_refusal.TransportFault e (words_fault old.faults new.faults e) (Meets-counts CallCounts (search_counts trust s image a) met) held
 
 pub search_no_sink : (trust : Trust) (s : Context) (image : Reference) (a : RegistryAuth) {old new : Link} {k l : Kept} (r : Result TrustedLayers SigstoreError) → Meets is_memory (searched trust s image a) old new k l r → NoSinkInSearch r
 search_no_sink trust s image a (Ok found) met held = held
@@ -409,7 +409,7 @@ search_no_sink trust s image a {old} {new} (Err e) met held = search_said (λ x.
 
 pub record SincereWhole (m n : ℕ) (e : PullRefusal) : Type 0 where
   pub falls : m ≤ n
-  pub fault : client_refusal e ≡ Some engine_refusal.TransportFault → Rose m n
+  pub fault : client_refusal e ≡ Some engine_refusal.TransportFault → Increased m n
   pub no_sink : client_refusal e ≡ Some engine_refusal.SinkFault → ⊥
 
 abbrev WholeCounts : {A : Type 0} → ℕ → ℕ → Result A PullRefusal → Type 0
@@ -433,7 +433,7 @@ part_counts p h = Counts-bind CallCounts WholeCounts p (λ r. Done (as_whole r))
 
 whole_later : {A : Type 0} (m n o : ℕ) (r : Result A PullRefusal) → m ≤ n → WholeCounts n o r → WholeCounts m o r
 whole_later m n o (Ok a) le h = omega (arith, le, h)
-whole_later m n o (Err e) le h = record { falls = omega (arith, le, h.falls); fault = λ is. let rose : Rose n o = h.fault is in omega (arith, le, rose); no_sink = h.no_sink }
+whole_later m n o (Err e) le h = record { falls = omega (arith, le, h.falls); fault = λ is. let rose : Increased n o = h.fault is in omega (arith, le, rose); no_sink = h.no_sink }
 
 whole_next : {A B : Type 0} (p : Whole A) (f : A → Whole B) → Counts WholeCounts p → ((a : A) → Counts WholeCounts (f a)) → Counts WholeCounts (p >>= f)
 whole_next {A} {B} p f h each = Counts-bind WholeCounts WholeCounts p (unless_refused f) h leads where
@@ -459,24 +459,24 @@ unread_unheld : (image : Reference) (b : Bool) (e : PullRefusal) → readable_by
 unread_unheld image true e is = absurd (cc is)
 unread_unheld image false e is = let same : refusal.OciReferenceNotValidError (whole_text image) ≡ e = cc is in subst (λ x. client_refusal x ≡ None) same refl
 
-none_unheld : (found : TrustedLayers) (o : Option SignatureLayer) (e : PullRefusal) → standing_by found o ≡ Err e → client_refusal e ≡ None
+none_unheld : (found : TrustedLayers) (o : Option SignatureLayer) (e : PullRefusal) → signed_digest found o ≡ Err e → client_refusal e ≡ None
 none_unheld found (Some signature) e is = absurd (cc is)
 none_unheld found None e is = let same : refusal.Unsatisfied found.digest found.collected found.skipped ≡ e = cc is in subst (λ x. client_refusal x ≡ None) same refl
 
-module _ {V : Type 0} {H : V → Type 0} (meaning : Meaning V H) (s : Context) (image : Reference) (a : RegistryAuth) (accepted : List (List ℕ)) where
-  after_counts : (found : TrustedLayers) → Counts WholeCounts (after_search meaning s image a accepted found)
+module _ {V : Type 0} {H : V → Type 0} (policy_context : PolicyContext V H) (s : Context) (image : Reference) (a : RegistryAuth) (accepted : List (List ℕ)) where
+  after_counts : (found : TrustedLayers) → Counts WholeCounts (after_search policy_context s image a accepted found)
   unfolding after_search
   after_counts found =
-      whole_next (Done (standing meaning found)) _ (whole_done (standing meaning found) (λ e is. none_unheld found (find (stands_by meaning) found.collected) e is)) (λ stood.
+      whole_next (Done (standing policy_context found)) _ (whole_done (standing policy_context found) (λ e is. none_unheld found (find (stands_by policy_context) found.collected) e is)) (λ stood.
       whole_next (part_of (image_row s image (digest_reference image stood.digest) a accepted)) _ (part_counts (image_row s image (digest_reference image stood.digest) a accepted) (image_row_counts s image (digest_reference image stood.digest) a accepted)) (λ pulled.
       whole_done (Ok (verified_image stood pulled)) (λ e is. absurd (cc is))))
 
-  pull_counts : Counts WholeCounts (verified meaning s image a accepted)
+  pull_counts : Counts WholeCounts (verified policy_context s image a accepted)
   unfolding verified after_search
   pull_counts =
-      whole_next (Done (constrained (is_unconstrained meaning.policy))) _ (whole_done (constrained (is_unconstrained meaning.policy)) (λ e is. empty_unheld (is_unconstrained meaning.policy) e is)) (λ u.
+      whole_next (Done (constrained (is_unconstrained policy_context.policy))) _ (whole_done (constrained (is_unconstrained policy_context.policy)) (λ e is. empty_unheld (is_unconstrained policy_context.policy) e is)) (λ u.
       whole_next (Done (readable image)) _ (whole_done (readable image) (λ e is. unread_unheld image (reads_back image) e is)) (λ v.
-      whole_next (part_of (searched meaning.trust s image a)) _ (part_counts (searched meaning.trust s image a) (search_counts meaning.trust s image a)) (λ found. after_counts found)))
+      whole_next (part_of (searched policy_context.trust s image a)) _ (part_counts (searched policy_context.trust s image a) (search_counts policy_context.trust s image a)) (λ found. after_counts found)))
 
   pull_said : (P : OciDistributionError → Type 0) (m n : ℕ) (x : OciDistributionError) (e : PullRefusal) → (SincereWhole m n e → client_refusal e ≡ Some x → P x) → Unless (of_refusal e) (SincereWhole m n e) → client_refusal e ≡ Some x → P x
   pull_said P m n x refusal.WantOfMemory so h is = absurd (cc is)
@@ -486,10 +486,10 @@ module _ {V : Type 0} {H : V → Type 0} (meaning : Meaning V H) (s : Context) (
   pull_said P m n x (refusal.RegistryPullError name e) so h is = so h is
   pull_said P m n x (refusal.Unsatisfied digest collected skipped) so h is = so h is
 
-  pub pull_fault : {old new : Link} {k l : Kept} (r : Result VerifiedImage PullRefusal) → Meets of_refusal (verified meaning s image a accepted) old new k l r → FaultCounted old new r
+  pub pull_fault : {old new : Link} {k l : Kept} (r : Result VerifiedImage PullRefusal) → Meets of_refusal (verified policy_context s image a accepted) old new k l r → FaultCounted old new r
   pull_fault (Ok v) met held = absurd held
-  pull_fault {old} {new} (Err e) met held = pull_said (λ x. Rose old.faults new.faults) old.faults new.faults engine_refusal.TransportFault e (λ h is. h.fault is) (Meets-counts WholeCounts pull_counts met) held
+  pull_fault {old} {new} (Err e) met held = pull_said (λ x. Increased old.faults new.faults) old.faults new.faults engine_refusal.TransportFault e (λ h is. h.fault is) (Meets-counts WholeCounts pull_counts met) held
 
-  pub pull_no_sink : {old new : Link} {k l : Kept} (r : Result VerifiedImage PullRefusal) → Meets of_refusal (verified meaning s image a accepted) old new k l r → NoSinkFault r
+  pub pull_no_sink : {old new : Link} {k l : Kept} (r : Result VerifiedImage PullRefusal) → Meets of_refusal (verified policy_context s image a accepted) old new k l r → NoSinkFault r
   pull_no_sink (Ok v) met held = held
   pull_no_sink {old} {new} (Err e) met held = pull_said (λ x. ⊥) old.faults new.faults engine_refusal.SinkFault e (λ h is. h.no_sink is) (Meets-counts WholeCounts pull_counts met) held

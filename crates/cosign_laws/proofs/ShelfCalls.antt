@@ -9,8 +9,8 @@ use Rattle.oci_names.specs.Reference.{reads_back, whole_text, reference_of, reso
 use Rattle.oci_names.specs.declared.parse_error.ParseError.{ParseError}
 use Rattle.oci_names.specs.declared.reference.Reference.{Reference}
 use Rattle.oci_auth.specs.declared.auth.RegistryAuth.{RegistryAuth}
-use Rattle.oci_auth.specs.Memory.{fresh as new}
-use Rattle.oci_auth.specs.declared.memory.Memory.{Memory}
+use Rattle.oci_auth.specs.AuthState.{fresh as new}
+use Rattle.oci_auth.specs.declared.auth_state.AuthState.{AuthState}
 use Rattle.oci_manifests.specs.declared.document.OciManifest.{OciManifest}
 use Rattle.oci_manifests.specs.declared.index.OciImageIndex.{OciImageIndex}
 use Rattle.oci_protocol.specs.Lift.{lifted}
@@ -20,11 +20,11 @@ use Rattle.oci_link.specs.declared.shelf.Shelf.{Shelf}
 use Rattle.engine_rows.specs.declared.image.ImageData.{ImageData}
 use Rattle.engine_terms.specs.Contexts.{within}
 use Rattle.engine_terms.specs.declared.settings.Settings.{Settings}
-use Rattle.shelf_laws.specs.Comes.{Comes, ComesTo, Yields, Gives, Stays}
-use Rattle.shelf_laws.specs.Home.{IsAt, Settled}
-use Rattle.shelf_laws.proofs.TableSteps.{Comes-more, Comes-bind}
+use Rattle.shelf_laws.specs.EvaluatesWith.{EvaluatesWith, EvaluatesTo, Yields, AlwaysOk, Preserves}
+use Rattle.shelf_laws.specs.IsHosted.{IsAt, Settled}
+use Rattle.shelf_laws.proofs.TableSteps.{EvaluatesWith-more, EvaluatesWith-bind}
 use Rattle.shelf_laws.proofs.Tokens.{fresh_settled}
-use Rattle.shelf_laws.proofs.WiderRows.{Comes-lifted, Comes-itself, ComesTo-is, Gives-lifted, Stays-lifted}
+use Rattle.shelf_laws.proofs.WiderRows.{EvaluatesWith-lifted, EvaluatesWith-itself, EvaluatesTo-is, AlwaysOk-lifted, Preserves-lifted}
 use Rattle.sig_settings.specs.Keys.{manifest_key, pull_key, referrers_key}
 use Rattle.sig_settings.proofs.Tells.{manifest_keys_tell, pull_keys_tell, referrers_keys_tell}
 use Rattle.sig_answers.specs.Answers.{is_of, is_fresh, same_kind, kind_of, given_at, keep, entry, within as in_bounds}
@@ -38,7 +38,7 @@ use Rattle.sig_calls.specs.Calls.{digests, manifests, images, referrers, digest_
 use Rattle.sig_calls.specs.Clients.{Kept, Plain}
 use Rattle.sig_calls.specs.declared.error.SigstoreError.{SigstoreError}
 use Rattle.sig_calls.specs.Clients.{no_answers}
-use Rattle.cosign_rows.specs.Settled.{IsGiven, IsOf, IsAnswer, IsRight, AreRight, IsSettled}
+use Rattle.cosign_rows.specs.Settled.{IsGiven, IsOf, IsAnswer, IsFromShelf, AreFromShelf, IsSettled}
 
 -- ---- texts of references
 
@@ -67,11 +67,11 @@ bounded_all P bounds [] all = all
 bounded_all P bounds (e ∷ es) all = cond_both _ (e ∷ es) (in_bounds bounds es) (All P) (λ fits. all) (λ more. bounded_all P bounds es (All-tail P e es all))
 
 module _ (s : Settings) (registry : List ℕ) (a : RegistryAuth) (shelf : Shelf) where
-  abbrev J : Memory → Type 0
+  abbrev J : AuthState → Type 0
   J k = Settled registry shelf.repository a k
 
   abbrev R : Option Answers → Type 0
-  R answers = AreRight s registry a shelf answers
+  R answers = AreFromShelf s registry a shelf answers
 
   abbrev I : Kept → Type 0
   I k = J k.0 × R k.1
@@ -79,11 +79,11 @@ module _ (s : Settings) (registry : List ℕ) (a : RegistryAuth) (shelf : Shelf)
   abbrev Given : {A : Type 0} → (ℕ → Plain A) → A → Type 0
   Given call x = IsGiven registry a shelf call x
 
-  kept_right : (e : Entry) (answers : Option Answers) → R answers → IsRight s registry a shelf e → R (option_map (keep e) answers)
+  kept_right : (e : Entry) (answers : Option Answers) → R answers → IsFromShelf s registry a shelf e → R (option_map (keep e) answers)
   kept_right e None are is = tt
   kept_right e (Some k) are is =
       let others : List Entry = filter (λ other. not (is_of (kind_of e.answer) e.key other)) k.entries in
-      bounded_all (IsRight s registry a shelf) k.bounds (others ++ e ∷ []) (All-push (IsRight s registry a shelf) others e (All-filter (λ other. not (is_of (kind_of e.answer) e.key other)) (IsRight s registry a shelf) k.entries are) is)
+      bounded_all (IsFromShelf s registry a shelf) k.bounds (others ++ e ∷ []) (All-push (IsFromShelf s registry a shelf) others e (All-filter (λ other. not (is_of (kind_of e.answer) e.key other)) (IsFromShelf s registry a shelf) k.entries are) is)
 
   -- the cached responses of a call are its responses
   record Caches {A : Type 0} (cache : Cache A) (key : List ℕ) (call : ℕ → Plain A) : Type 0 where
@@ -97,7 +97,7 @@ module _ (s : Settings) (registry : List ℕ) (a : RegistryAuth) (shelf : Shelf)
     known_given (Some k) x are is = by_found (find (is_of cache.kind key) k.entries) refl is where
       by_moment : (e : Entry) (b : Bool) → find (is_of cache.kind key) k.entries ≡ Some e → option_and_then cache.read (if b then Some e.answer else None) ≡ Some x → Given call x
       by_moment e true there read =
-          let found = found_all (IsRight s registry a shelf) (is_of cache.kind key) k.entries e are there in
+          let found = found_all (IsFromShelf s registry a shelf) (is_of cache.kind key) k.entries e are there in
           let own : e.key ≡ key = (bytes_eq-Decides e.key key).0 (and_right (same_kind (kind_of e.answer) cache.kind) (bytes_eq e.key key) found.1) in
           caches.knows e.answer x (subst (λ (t : List ℕ). IsAnswer s registry a shelf t e.answer) own found.0) read
       by_moment e false there read = cc read
@@ -107,46 +107,46 @@ module _ (s : Settings) (registry : List ℕ) (a : RegistryAuth) (shelf : Shelf)
       by_found (Some e) there read = by_moment e (is_fresh now e.moment) there read
 
     -- the uncached call, whose response is then cached
-    asked_comes : (Q : Result A SigstoreError → Type 0) (k : Kept) → I k → Comes (answer shelf) (λ l r. J l × Q r) (call now) k.0 → Comes (answer shelf) (λ l r. I l × Q r) (known_or cache key now (call now) None) k
-    unfolding Comes bind keeping
+    asked_comes : (Q : Result A SigstoreError → Type 0) (k : Kept) → I k → EvaluatesWith (answer shelf) (λ l r. J l × Q r) (call now) k.0 → EvaluatesWith (answer shelf) (λ l r. I l × Q r) (known_or cache key now (call now) None) k
+    unfolding EvaluatesWith bind keeping
     asked_comes Q k is h =
-        Comes-bind (answer shelf) (λ (l : Kept) r. ((J l.0 × Q r) × ComesTo (answer shelf) (call now) k.0 r) × (l.1 ≡ k.1)) (λ l r. I l × Q r) (lifted (call now)) (unless_refused (λ x. keeping cache key now x >> Done (Ok x))) k
-        (Comes-lifted (answer shelf) (λ l r. (J l × Q r) × ComesTo (answer shelf) (call now) k.0 r) (call now) k.0 k.1 (Comes-itself (answer shelf) (λ l r. J l × Q r) (call now) k.0 h))
+        EvaluatesWith-bind (answer shelf) (λ (l : Kept) r. ((J l.0 × Q r) × EvaluatesTo (answer shelf) (call now) k.0 r) × (l.1 ≡ k.1)) (λ l r. I l × Q r) (lifted (call now)) (unless_refused (λ x. keeping cache key now x >> Done (Ok x))) k
+        (EvaluatesWith-lifted (answer shelf) (λ l r. (J l × Q r) × EvaluatesTo (answer shelf) (call now) k.0 r) (call now) k.0 k.1 (EvaluatesWith-itself (answer shelf) (λ l r. J l × Q r) (call now) k.0 h))
         by_result
       where
-        by_result : (l : Kept) (r : Result A SigstoreError) → ((J l.0 × Q r) × ComesTo (answer shelf) (call now) k.0 r) × (l.1 ≡ k.1) → Comes (answer shelf) (λ l r. I l × Q r) (unless_refused (λ x. keeping cache key now x >> Done (Ok x)) r) l
+        by_result : (l : Kept) (r : Result A SigstoreError) → ((J l.0 × Q r) × EvaluatesTo (answer shelf) (call now) k.0 r) × (l.1 ≡ k.1) → EvaluatesWith (answer shelf) (λ l r. I l × Q r) (unless_refused (λ x. keeping cache key now x >> Done (Ok x)) r) l
         by_result l (Ok x) ((found, comes), same) =
             let given : Given call x = record { moment = now; kept = k.0; settled = is.0; comes = comes } in
             ((found.0, kept_right (entry key now (cache.kept_as x)) l.1 (subst R (sym same) is.1) (caches.keeps x given)), found.1)
         by_result l (Err e) ((found, comes), same) = ((found.0, subst R (sym same) is.1), found.1)
 
-    recalled_comes : (Q : Result A SigstoreError → Type 0) (k : Kept) → I k → ((x : A) → Given call x → Q (Ok x)) → Comes (answer shelf) (λ l r. J l × Q r) (call now) k.0 → Comes (answer shelf) (λ l r. I l × Q r) (recalled cache key now (call now)) k
-    unfolding Comes recalled
+    recalled_comes : (Q : Result A SigstoreError → Type 0) (k : Kept) → I k → ((x : A) → Given call x → Q (Ok x)) → EvaluatesWith (answer shelf) (λ l r. J l × Q r) (call now) k.0 → EvaluatesWith (answer shelf) (λ l r. I l × Q r) (recalled cache key now (call now)) k
+    unfolding EvaluatesWith recalled
     recalled_comes Q k is each h = by_known (known cache key now k.1) refl where
-      by_known : (o : Option A) → known cache key now k.1 ≡ o → Comes (answer shelf) (λ l r. I l × Q r) (known_or cache key now (call now) o) k
+      by_known : (o : Option A) → known cache key now k.1 ≡ o → EvaluatesWith (answer shelf) (λ l r. I l × Q r) (known_or cache key now (call now) o) k
       by_known (Some x) there = (is, each x (known_given k.1 x is.1 there))
       by_known None there = asked_comes Q k is h
 
-    given_is : {P : A → Type 0} → ((m : ℕ) → Gives J (answer shelf) P (call m)) → (x : A) → Given call x → P x
-    given_is {P} h x g = ComesTo-is (answer shelf) (λ l r. J l × Yields P r) (call g.moment) g.kept (Ok x) (Yields P) (λ l r both. both.1) ((h g.moment).gives g.kept g.settled) g.comes
+    given_is : {P : A → Type 0} → ((m : ℕ) → AlwaysOk J (answer shelf) P (call m)) → (x : A) → Given call x → P x
+    given_is {P} h x g = EvaluatesTo-is (answer shelf) (λ l r. J l × Yields P r) (call g.moment) g.kept (Ok x) (Yields P) (λ l r both. both.1) ((h g.moment).gives g.kept g.settled) g.comes
 
-    recalled_gives : {P : A → Type 0} → ((m : ℕ) → Gives J (answer shelf) P (call m)) → Gives I (answer shelf) P (recalled cache key now (call now))
+    recalled_gives : {P : A → Type 0} → ((m : ℕ) → AlwaysOk J (answer shelf) P (call m)) → AlwaysOk I (answer shelf) P (recalled cache key now (call now))
     recalled_gives {P} h = record { gives = λ k is. recalled_comes (Yields P) k is (given_is h) ((h now).gives k.0 is.0) }
 
-    recalled_stays : Stays J (answer shelf) (call now) → Stays I (answer shelf) (recalled cache key now (call now))
+    recalled_stays : Preserves J (answer shelf) (call now) → Preserves I (answer shelf) (recalled cache key now (call now))
     recalled_stays h = record {
-      stays = λ k is. Comes-more (answer shelf) (λ l r. I l × Unit {0}) (λ l r. I l) (recalled cache key now (call now)) k
-          (recalled_comes (λ r. Unit {0}) k is (λ x g. tt) (Comes-more (answer shelf) (λ l r. J l) (λ l r. J l × Unit {0}) (call now) k.0 (h.stays k.0 is.0) (λ l r stays. (stays, tt)))) (λ l r found. found.0);
+      stays = λ k is. EvaluatesWith-more (answer shelf) (λ l r. I l × Unit {0}) (λ l r. I l) (recalled cache key now (call now)) k
+          (recalled_comes (λ r. Unit {0}) k is (λ x g. tt) (EvaluatesWith-more (answer shelf) (λ l r. J l) (λ l r. J l × Unit {0}) (call now) k.0 (h.stays k.0 is.0) (λ l r stays. (stays, tt)))) (λ l r found. found.0);
     }
 
   module _ {A : Type 0} {cache : Cache A} {key : List ℕ} {call : ℕ → Plain A} where
-    cached_gives : {P : A → Type 0} (b : Bool) → (b ≡ true → Caches cache key call) → (now : ℕ) → ((m : ℕ) → Gives J (answer shelf) P (call m)) → Gives I (answer shelf) P (cached b cache key now (call now))
+    cached_gives : {P : A → Type 0} (b : Bool) → (b ≡ true → Caches cache key call) → (now : ℕ) → ((m : ℕ) → AlwaysOk J (answer shelf) P (call m)) → AlwaysOk I (answer shelf) P (cached b cache key now (call now))
     cached_gives true caches now h = recalled_gives (caches refl) now h
-    cached_gives false caches now h = Gives-lifted R (h now)
+    cached_gives false caches now h = AlwaysOk-lifted R (h now)
 
-    cached_stays : (b : Bool) → (b ≡ true → Caches cache key call) → (now : ℕ) → Stays J (answer shelf) (call now) → Stays I (answer shelf) (cached b cache key now (call now))
+    cached_stays : (b : Bool) → (b ≡ true → Caches cache key call) → (now : ℕ) → Preserves J (answer shelf) (call now) → Preserves I (answer shelf) (cached b cache key now (call now))
     cached_stays true caches now h = recalled_stays (caches refl) now h
-    cached_stays false caches now h = Stays-lifted R h
+    cached_stays false caches now h = Preserves-lifted R h
 
   -- ---- the four calls
 
@@ -203,39 +203,39 @@ module _ (s : Settings) (registry : List ℕ) (a : RegistryAuth) (shelf : Shelf)
       knows (Image given) x is read = cc read
 
     -- a call that returns this at each moment does so with a cache too
-    pub digest_given : {P : List ℕ → Type 0} (now : ℕ) → ((m : ℕ) → Gives J (answer shelf) P (digest_made (within s m) image a)) → Gives I (answer shelf) P (digest_call (within s now) image a)
+    pub digest_given : {P : List ℕ → Type 0} (now : ℕ) → ((m : ℕ) → AlwaysOk J (answer shelf) P (digest_made (within s m) image a)) → AlwaysOk I (answer shelf) P (digest_call (within s now) image a)
     unfolding digest_call
     digest_given now h = cached_gives (reads_back image) digest_caches now h
 
-    pub digest_settled : (now : ℕ) → Stays J (answer shelf) (digest_made (within s now) image a) → Stays I (answer shelf) (digest_call (within s now) image a)
+    pub digest_settled : (now : ℕ) → Preserves J (answer shelf) (digest_made (within s now) image a) → Preserves I (answer shelf) (digest_call (within s now) image a)
     unfolding digest_call
     digest_settled now h = cached_stays (reads_back image) digest_caches now h
 
-    pub manifest_given : {P : OciManifest × List ℕ → Type 0} (now : ℕ) → ((m : ℕ) → Gives J (answer shelf) P (manifest_made (within s m) image a)) → Gives I (answer shelf) P (manifest_call (within s now) image a)
+    pub manifest_given : {P : OciManifest × List ℕ → Type 0} (now : ℕ) → ((m : ℕ) → AlwaysOk J (answer shelf) P (manifest_made (within s m) image a)) → AlwaysOk I (answer shelf) P (manifest_call (within s now) image a)
     unfolding manifest_call
     manifest_given now h = cached_gives (reads_back image) manifest_caches now h
 
-    pub manifest_settled : (now : ℕ) → Stays J (answer shelf) (manifest_made (within s now) image a) → Stays I (answer shelf) (manifest_call (within s now) image a)
+    pub manifest_settled : (now : ℕ) → Preserves J (answer shelf) (manifest_made (within s now) image a) → Preserves I (answer shelf) (manifest_call (within s now) image a)
     unfolding manifest_call
     manifest_settled now h = cached_stays (reads_back image) manifest_caches now h
 
-    pub image_given : {P : ImageData → Type 0} (accepted : List (List ℕ)) (now : ℕ) → ((m : ℕ) → Gives J (answer shelf) P (image_made (within s m) image a accepted)) → Gives I (answer shelf) P (image_call (within s now) image a accepted)
+    pub image_given : {P : ImageData → Type 0} (accepted : List (List ℕ)) (now : ℕ) → ((m : ℕ) → AlwaysOk J (answer shelf) P (image_made (within s m) image a accepted)) → AlwaysOk I (answer shelf) P (image_call (within s now) image a accepted)
     unfolding image_call
     image_given accepted now h = cached_gives (reads_back image) (image_caches accepted) now h
 
-    pub image_settled : (accepted : List (List ℕ)) (now : ℕ) → Stays J (answer shelf) (image_made (within s now) image a accepted) → Stays I (answer shelf) (image_call (within s now) image a accepted)
+    pub image_settled : (accepted : List (List ℕ)) (now : ℕ) → Preserves J (answer shelf) (image_made (within s now) image a accepted) → Preserves I (answer shelf) (image_call (within s now) image a accepted)
     unfolding image_call
     image_settled accepted now h = cached_stays (reads_back image) (image_caches accepted) now h
 
-    pub referrers_given : {P : OciImageIndex → Type 0} (kind : Option (List ℕ)) (now : ℕ) → ((m : ℕ) → Gives J (answer shelf) P (referrers_made (within s m) image a kind)) → Gives I (answer shelf) P (referrers_call (within s now) image a kind)
+    pub referrers_given : {P : OciImageIndex → Type 0} (kind : Option (List ℕ)) (now : ℕ) → ((m : ℕ) → AlwaysOk J (answer shelf) P (referrers_made (within s m) image a kind)) → AlwaysOk I (answer shelf) P (referrers_call (within s now) image a kind)
     unfolding referrers_call
     referrers_given kind now h = cached_gives (reads_back image) (referrers_caches kind) now h
 
-    pub referrers_settled : (kind : Option (List ℕ)) (now : ℕ) → Stays J (answer shelf) (referrers_made (within s now) image a kind) → Stays I (answer shelf) (referrers_call (within s now) image a kind)
+    pub referrers_settled : (kind : Option (List ℕ)) (now : ℕ) → Preserves J (answer shelf) (referrers_made (within s now) image a kind) → Preserves I (answer shelf) (referrers_call (within s now) image a kind)
     unfolding referrers_call
     referrers_settled kind now h = cached_stays (reads_back image) (referrers_caches kind) now h
 
 -- a client that keeps nothing yet is settled
 pub new_settled : (s : Settings) (image : Reference) (a : RegistryAuth) (shelf : Shelf) (default : ℕ) (caching : Bool) → IsSettled s image a shelf (new default, no_answers caching)
-new_settled s image a shelf default true = record { memory = fresh_settled (resolved_registry image) (repository_of image) a default; answers = All-nil (IsRight s (resolved_registry image) a shelf) }
+new_settled s image a shelf default true = record { memory = fresh_settled (resolved_registry image) (repository_of image) a default; answers = All-nil (IsFromShelf s (resolved_registry image) a shelf) }
 new_settled s image a shelf default false = record { memory = fresh_settled (resolved_registry image) (repository_of image) a default; answers = tt }

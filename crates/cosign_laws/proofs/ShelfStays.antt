@@ -5,7 +5,7 @@ use Rattle.oci_names.specs.Words.{Path}
 use Rattle.oci_names.specs.Reference.{registry_of, whole_text, resolved_registry, reads_back}
 use Rattle.oci_names.specs.declared.reference.Reference.{Reference}
 use Rattle.oci_auth.specs.declared.auth.RegistryAuth.{RegistryAuth}
-use Rattle.oci_auth.specs.declared.memory.Memory.{Memory}
+use Rattle.oci_auth.specs.declared.auth_state.AuthState.{AuthState}
 use Rattle.oci_manifests.specs.declared.document.OciManifest.{OciManifest}
 use Rattle.oci_manifests.specs.declared.document.OciManifest.TheVariants.{Image, ImageIndex}
 use Rattle.oci_manifests.specs.declared.index.OciImageIndex.{OciImageIndex}
@@ -27,23 +27,23 @@ use Rattle.engine_rows.specs.Rows.{Row as Engine}
 use Rattle.engine_rows.specs.Image.{layers_accepted, layer_of}
 use Rattle.sig_answers.specs.declared.answers.Answers.{Answers}
 use Rattle.sig_calls.specs.declared.error.SigstoreError.{SigstoreError}
-use Rattle.sig_calls.specs.declared.wording.Called.{Called}
-use Rattle.sig_calls.specs.declared.wording.Called.TheVariants.{FetchManifest, Pull, PullManifest}
-use Rattle.sig_calls.specs.Wording.{worded}
+use Rattle.sig_calls.specs.declared.error_context.Called.{Called}
+use Rattle.sig_calls.specs.declared.error_context.Called.TheVariants.{FetchManifest, Pull, PullManifest}
+use Rattle.sig_calls.specs.ErrorContext.{with_error_context}
 use Rattle.sig_calls.specs.Clients.{Kept, Row}
 use Rattle.sig_calls.specs.Calls.{in_words, digest_made, manifest_made, image_made, document_made, blob_made, referrers_made, document_call, blob_call, referrers_call, image_call}
-use Rattle.shelf_laws.specs.Comes.{Stays}
-use Rattle.shelf_laws.specs.Home.{Home, IsAt, CanBeShown, Settled}
-use Rattle.shelf_laws.proofs.TableSteps.{Gives-stays, Stays-done, Stays-bind, Stays-next}
-use Rattle.shelf_laws.proofs.WiderRows.{Stays-lifted}
+use Rattle.shelf_laws.specs.EvaluatesWith.{Preserves}
+use Rattle.shelf_laws.specs.IsHosted.{IsHosted, IsAt, CanBeShown, Settled}
+use Rattle.shelf_laws.proofs.TableSteps.{AlwaysOk-stays, Preserves-done, Preserves-bind, Preserves-next}
+use Rattle.shelf_laws.proofs.WiderRows.{Preserves-lifted}
 use Rattle.shelf_laws.proofs.References.{Spelled, spelled, resolved_domain}
 use Rattle.shelf_laws.proofs.SettledRows.{digest_stays, raw_stays, manifest_stays, blob_stays, pull_stays, referrers_stay}
 use Rattle.shelf_laws.proofs.Tokens.{given_gives}
-use Rattle.cosign_layers.specs.Standing.{Meaning}
+use Rattle.cosign_layers.specs.Satisfying.{PolicyContext}
 use Rattle.cosign_rows.specs.Image.{document_in, entry_in, layers_row, blobs_row, with_image, entry_call, entry_row, manifest_row, image_row}
 use Rattle.cosign_rows.specs.References.{tag_reference, digest_reference, reading_back}
 use Rattle.cosign_rows.specs.Search.{payload_type, tag_layers, or_skipped, tag_by, tag_source, bundle_type, referrer_part, referrer_by, referrer_row, referrers_row, listed_row, referrers_source, searched}
-use Rattle.cosign_rows.specs.Settled.{AreRight}
+use Rattle.cosign_rows.specs.Settled.{AreFromShelf}
 use Rattle.cosign_rows.specs.Shelves.{IsAsked}
 use Rattle.cosign_rows.specs.Tails.{after_search}
 use Rattle.cosign_rows.specs.Verified.{constrained, is_unconstrained, readable, as_whole, part_of, standing, verified}
@@ -52,15 +52,15 @@ use Rattle.cosign_rows.specs.declared.found.Skipped.TheVariants.{Source, Referre
 use Rattle.cosign_rows.specs.declared.found.TrustedLayers.{TrustedLayers}
 use Rattle.cosign_laws.proofs.ShelfCalls.{digest_settled, manifest_settled, image_settled, referrers_settled}
 
-pub words_stay : {J : Memory → Type 0} {table : Request → Answer} {A : Type 0} {p : Engine A} (called : Called) (r : Reference) → Stays J table p → Stays J table (in_words called r p)
+pub words_stay : {J : AuthState → Type 0} {table : Request → Answer} {A : Type 0} {p : Engine A} (called : Called) (r : Reference) → Preserves J table p → Preserves J table (in_words called r p)
 unfolding in_words
-words_stay called r h = Stays-bind (λ x. Done (worded called (whole_text r) x)) h (λ x. Stays-done _)
+words_stay called r h = Preserves-bind (λ x. Done (with_error_context called (whole_text r) x)) h (λ x. Preserves-done _)
 
 module _ {s : Settings} {image : Reference} {a : RegistryAuth} {shelf : Shelf} (asked : IsAsked s image a shelf) where
   spelling : Spelled image
   spelling = spelled image asked.reads_back_is
 
-  pub home_of : Home s (resolved_registry image) shelf
+  pub home_of : IsHosted s (resolved_registry image) shelf
   home_of = record { written = asked.written; domain = resolved_domain image spelling; path = subst Path asked.repository_is spelling.path; agent = asked.agent; lead = asked.lead }
 
   pub image_at : IsAt (resolved_registry image) shelf image
@@ -81,15 +81,15 @@ module _ {s : Settings} {image : Reference} {a : RegistryAuth} {shelf : Shelf} (
   pub entry_at : (d x : List ℕ) → IsAt (resolved_registry image) shelf (entry_reference (digest_reference image d) x)
   entry_at d x = record { registry_is = own_registry; repository_is = asked.repository_is; no_mirror = refl }
 
-module _ {V : Type 0} {H : V → Type 0} (meaning : Meaning V H) (s : Settings) (image : Reference) (a : RegistryAuth) (accepted : List (List ℕ)) (shelf : Shelf) (asked : IsAsked s image a shelf) (moment : ℕ) where
+module _ {V : Type 0} {H : V → Type 0} (policy_context : PolicyContext V H) (s : Settings) (image : Reference) (a : RegistryAuth) (accepted : List (List ℕ)) (shelf : Shelf) (asked : IsAsked s image a shelf) (moment : ℕ) where
   abbrev registry : List ℕ
   registry = resolved_registry image
 
-  abbrev J : Memory → Type 0
+  abbrev J : AuthState → Type 0
   J k = Settled registry shelf.repository a k
 
   abbrev R : Option Answers → Type 0
-  R answers = AreRight s registry a shelf answers
+  R answers = AreFromShelf s registry a shelf answers
 
   abbrev I : Kept → Type 0
   I k = J k.0 × R k.1
@@ -98,17 +98,17 @@ module _ {V : Type 0} {H : V → Type 0} (meaning : Meaning V H) (s : Settings) 
   ctx = record { settings = s; moment = moment }
 
   abbrev Settles : {A : Type 0} → Proto Kept A → Type 0
-  Settles p = Stays I (answer shelf) p
+  Settles p = Preserves I (answer shelf) p
 
   abbrev can : CanBeShown a
   can = asked.credentials
 
-  home : Home s registry shelf
+  home : IsHosted s registry shelf
   home = home_of asked
 
   -- ---- the search
 
-  digest_step : Stays J (answer shelf) (digest_made ctx image a)
+  digest_step : Preserves J (answer shelf) (digest_made ctx image a)
   unfolding digest_made
   digest_step = words_stay FetchManifest image (digest_stays home a can moment image (image_at asked))
 
@@ -116,31 +116,31 @@ module _ {V : Type 0} {H : V → Type 0} (meaning : Meaning V H) (s : Settings) 
     abbrev source : Reference
     source = digest_reference image d
 
-    tag_document : Stays J (answer shelf) (manifest_made ctx (tag_reference image d) a)
+    tag_document : Preserves J (answer shelf) (manifest_made ctx (tag_reference image d) a)
     unfolding manifest_made
     tag_document = words_stay PullManifest (tag_reference image d) (manifest_stays home a can moment (tag_reference image d) (tag_at asked d))
 
-    pulled : (r : Reference) → IsAt registry shelf r → (types : List (List ℕ)) → Stays J (answer shelf) (image_made ctx r a types)
+    pulled : (r : Reference) → IsAt registry shelf r → (types : List (List ℕ)) → Preserves J (answer shelf) (image_made ctx r a types)
     unfolding image_made
     pulled r at types = words_stay Pull r (pull_stays home a can moment r at types)
 
-    pub tag_stays : Settles (tag_layers meaning.trust d ctx (tag_reference image d) a)
+    pub tag_stays : Settles (tag_layers policy_context.trust d ctx (tag_reference image d) a)
     unfolding tag_layers
     tag_stays =
-        Stays-next _ (manifest_settled s registry a shelf (tag_reference image d) (tag_at asked d) moment tag_document) (λ document.
-        Stays-next _ (image_settled s registry a shelf (tag_reference image d) (tag_at asked d) (payload_type ∷ []) moment (pulled (tag_reference image d) (tag_at asked d) (payload_type ∷ []))) (λ found. Stays-done _))
+        Preserves-next _ (manifest_settled s registry a shelf (tag_reference image d) (tag_at asked d) moment tag_document) (λ document.
+        Preserves-next _ (image_settled s registry a shelf (tag_reference image d) (tag_at asked d) (payload_type ∷ []) moment (pulled (tag_reference image d) (tag_at asked d) (payload_type ∷ []))) (λ found. Preserves-done _))
 
-    tag_by_stays : (b : Bool) → Settles (tag_by meaning.trust d ctx (tag_reference image d) a b)
-    tag_by_stays false = Stays-done _
-    tag_by_stays true = Stays-bind (λ r. Done (or_skipped (Source Tag) r)) tag_stays (λ r. Stays-done _)
+    tag_by_stays : (b : Bool) → Settles (tag_by policy_context.trust d ctx (tag_reference image d) a b)
+    tag_by_stays false = Preserves-done _
+    tag_by_stays true = Preserves-bind (λ r. Done (or_skipped (Source Tag) r)) tag_stays (λ r. Preserves-done _)
 
-    tag_source_stays : Settles (tag_source meaning.trust ctx image a d)
+    tag_source_stays : Settles (tag_source policy_context.trust ctx image a d)
     unfolding tag_source
     tag_source_stays = tag_by_stays (reads_back (tag_reference image d))
 
-    listing : Stays J (answer shelf) (referrers_made ctx source a None)
+    listing : Preserves J (answer shelf) (referrers_made ctx source a None)
     unfolding referrers_made
-    listing = Stays-next _ (words_stay FetchManifest source (Gives-stays (given_gives home source (digest_at asked d) a can moment))) (λ u. words_stay PullManifest source (referrers_stay home a can moment source (digest_at asked d) None))
+    listing = Preserves-next _ (words_stay FetchManifest source (AlwaysOk-stays (given_gives home source (digest_at asked d) a can moment))) (λ u. words_stay PullManifest source (referrers_stay home a can moment source (digest_at asked d) None))
 
     pub listing_stays : Settles (referrers_call ctx source a None)
     listing_stays = referrers_settled s registry a shelf source (digest_at asked d) None moment listing
@@ -148,32 +148,32 @@ module _ {V : Type 0} {H : V → Type 0} (meaning : Meaning V H) (s : Settings) 
     pub referrer_stays : (x : List ℕ) → Settles (image_call ctx (digest_reference source x) a (bundle_type ∷ []))
     referrer_stays x = image_settled s registry a shelf (digest_reference source x) (referrer_at asked d x) (bundle_type ∷ []) moment (pulled (digest_reference source x) (referrer_at asked d x) (bundle_type ∷ []))
 
-    referrer_by_stays : (x : List ℕ) (b : Bool) → Settles (referrer_by meaning.trust d ctx (digest_reference source x) a x b)
-    referrer_by_stays x false = Stays-done _
-    referrer_by_stays x true = Stays-bind (λ r. Done (or_skipped (Referrer x) (referrer_part meaning.trust d r))) (referrer_stays x) (λ r. Stays-done _)
+    referrer_by_stays : (x : List ℕ) (b : Bool) → Settles (referrer_by policy_context.trust d ctx (digest_reference source x) a x b)
+    referrer_by_stays x false = Preserves-done _
+    referrer_by_stays x true = Preserves-bind (λ r. Done (or_skipped (Referrer x) (referrer_part policy_context.trust d r))) (referrer_stays x) (λ r. Preserves-done _)
 
-    referrers_row_stays : (xs : List ImageIndexEntry) → Settles (referrers_row meaning.trust d ctx source a xs)
+    referrers_row_stays : (xs : List ImageIndexEntry) → Settles (referrers_row policy_context.trust d ctx source a xs)
     unfolding referrers_row referrer_row
-    referrers_row_stays [] = Stays-done _
+    referrers_row_stays [] = Preserves-done _
     referrers_row_stays (x ∷ xs) =
-        Stays-next _ (referrer_by_stays x.digest (reads_back (digest_reference source x.digest))) (λ one.
-        Stays-next _ (referrers_row_stays xs) (λ rest. Stays-done _))
+        Preserves-next _ (referrer_by_stays x.digest (reads_back (digest_reference source x.digest))) (λ one.
+        Preserves-next _ (referrers_row_stays xs) (λ rest. Preserves-done _))
 
-    listed_stays : (r : Result OciImageIndex SigstoreError) → Settles (listed_row meaning.trust d ctx source a r)
+    listed_stays : (r : Result OciImageIndex SigstoreError) → Settles (listed_row policy_context.trust d ctx source a r)
     listed_stays (Ok index) = referrers_row_stays index.manifests
-    listed_stays (Err e) = Stays-done _
+    listed_stays (Err e) = Preserves-done _
 
-    referrers_source_stays : Settles (referrers_source meaning.trust d ctx source a)
+    referrers_source_stays : Settles (referrers_source policy_context.trust d ctx source a)
     unfolding referrers_source
-    referrers_source_stays = Stays-bind (listed_row meaning.trust d ctx source a) listing_stays listed_stays
+    referrers_source_stays = Preserves-bind (listed_row policy_context.trust d ctx source a) listing_stays listed_stays
 
-  searched_stays : Settles (searched meaning.trust ctx image a)
+  searched_stays : Settles (searched policy_context.trust ctx image a)
   unfolding searched
   searched_stays =
-      Stays-next _ (digest_settled s registry a shelf image (image_at asked) moment digest_step) (λ d.
-      Stays-next _ (Stays-done (reading_back (digest_reference image d))) (λ u.
-      Stays-next _ (tag_source_stays d) (λ tag.
-      Stays-next _ (referrers_source_stays d) (λ more. Stays-done _))))
+      Preserves-next _ (digest_settled s registry a shelf image (image_at asked) moment digest_step) (λ d.
+      Preserves-next _ (Preserves-done (reading_back (digest_reference image d))) (λ u.
+      Preserves-next _ (tag_source_stays d) (λ tag.
+      Preserves-next _ (referrers_source_stays d) (λ more. Preserves-done _))))
 
   -- ---- the image
 
@@ -183,53 +183,53 @@ module _ {V : Type 0} {H : V → Type 0} (meaning : Meaning V H) (s : Settings) 
 
     document_stays : (r : Reference) → IsAt registry shelf r → Settles (document_call ctx r a manifest_types)
     unfolding document_call document_made
-    document_stays r at = Stays-lifted R (words_stay Pull r (raw_stays home a can moment r at manifest_types refl))
+    document_stays r at = Preserves-lifted R (words_stay Pull r (raw_stays home a can moment r at manifest_types refl))
 
     blob_call_stays : (x : Layer) → Settles (blob_call ctx own x)
     unfolding blob_call blob_made
-    blob_call_stays x = Stays-lifted R (words_stay Pull own (blob_stays home a can moment own (digest_at asked d) x))
+    blob_call_stays x = Preserves-lifted R (words_stay Pull own (blob_stays home a can moment own (digest_at asked d) x))
 
     layers_row_stays : (xs : List OciDescriptor) (before : List ImageLayer) → Settles (layers_row ctx own xs before)
     unfolding layers_row
-    layers_row_stays [] before = Stays-done _
-    layers_row_stays (x ∷ xs) before = Stays-next _ (blob_call_stays (described x)) (λ content. layers_row_stays xs (before ++ layer_of x content ∷ []))
+    layers_row_stays [] before = Preserves-done _
+    layers_row_stays (x ∷ xs) before = Preserves-next _ (blob_call_stays (described x)) (λ content. layers_row_stays xs (before ++ layer_of x content ∷ []))
 
     blobs_row_stays : (manifest : OciImageManifest) → Settles (blobs_row ctx own accepted manifest)
     unfolding blobs_row
     blobs_row_stays manifest =
-        Stays-next _ (blob_call_stays (described manifest.config)) (λ content.
-        Stays-next _ (Stays-done (worded Pull (whole_text own) (layers_accepted accepted manifest.layers))) (λ u.
-        Stays-next _ (layers_row_stays manifest.layers []) (λ layers. Stays-done _)))
+        Preserves-next _ (blob_call_stays (described manifest.config)) (λ content.
+        Preserves-next _ (Preserves-done (with_error_context Pull (whole_text own) (layers_accepted accepted manifest.layers))) (λ u.
+        Preserves-next _ (layers_row_stays manifest.layers []) (λ layers. Preserves-done _)))
 
     manifest_row_stays : (first : List ℕ) (document : OciManifest) → Settles (manifest_row ctx own a first document)
     unfolding entry_row entry_call
-    manifest_row_stays first (Image manifest) = Stays-done _
+    manifest_row_stays first (Image manifest) = Preserves-done _
     manifest_row_stays first (ImageIndex index) =
-        Stays-next _ (Stays-done (worded Pull (whole_text own) (entry_found s.platform_resolver index.manifests))) (λ entry.
-        Stays-next _ (Stays-bind (λ r. Done (with_image (whole_text own) r)) (document_stays (entry_reference own entry) (entry_at asked d entry)) (λ r. Stays-done _)) (λ found.
-        Stays-next _ (Stays-done (worded Pull (whole_text own) (entry_in entry found.0))) (λ manifest. Stays-done _)))
+        Preserves-next _ (Preserves-done (with_error_context Pull (whole_text own) (entry_found s.platform_resolver index.manifests))) (λ entry.
+        Preserves-next _ (Preserves-bind (λ r. Done (with_image (whole_text own) r)) (document_stays (entry_reference own entry) (entry_at asked d entry)) (λ r. Preserves-done _)) (λ found.
+        Preserves-next _ (Preserves-done (with_error_context Pull (whole_text own) (entry_in entry found.0))) (λ manifest. Preserves-done _)))
 
     image_stays : Settles (image_row ctx image own a accepted)
     unfolding image_row
     image_stays =
-        Stays-next _ (document_stays own (digest_at asked d)) (λ found.
-        Stays-next _ (Stays-done (worded Pull (whole_text own) (document_in image found.0))) (λ document.
-        Stays-next _ (manifest_row_stays found.0 document) (λ chosen.
-        Stays-next _ (blobs_row_stays chosen.manifest) (λ blobs. Stays-done _))))
+        Preserves-next _ (document_stays own (digest_at asked d)) (λ found.
+        Preserves-next _ (Preserves-done (with_error_context Pull (whole_text own) (document_in image found.0))) (λ document.
+        Preserves-next _ (manifest_row_stays found.0 document) (λ chosen.
+        Preserves-next _ (blobs_row_stays chosen.manifest) (λ blobs. Preserves-done _))))
 
   -- ---- the whole pull
 
   part_stays : {A : Type 0} {p : Row A} → Settles p → Settles (part_of p)
   unfolding part_of
-  part_stays h = Stays-bind (λ r. Done (as_whole r)) h (λ r. Stays-done _)
+  part_stays h = Preserves-bind (λ r. Done (as_whole r)) h (λ r. Preserves-done _)
 
-  after_stays : (found : TrustedLayers) → Settles (after_search meaning ctx image a accepted found)
+  after_stays : (found : TrustedLayers) → Settles (after_search policy_context ctx image a accepted found)
   unfolding after_search
-  after_stays found = Stays-next _ (Stays-done (standing meaning found)) (λ stood. Stays-next _ (part_stays (image_stays stood.digest)) (λ pulled. Stays-done _))
+  after_stays found = Preserves-next _ (Preserves-done (standing policy_context found)) (λ stood. Preserves-next _ (part_stays (image_stays stood.digest)) (λ pulled. Preserves-done _))
 
-  pub verified_stays : Settles (verified meaning ctx image a accepted)
+  pub verified_stays : Settles (verified policy_context ctx image a accepted)
   unfolding verified after_search
   verified_stays =
-      Stays-next _ (Stays-done (constrained (is_unconstrained meaning.policy))) (λ u.
-      Stays-next _ (Stays-done (readable image)) (λ u.
-      Stays-next _ (part_stays searched_stays) (λ found. after_stays found)))
+      Preserves-next _ (Preserves-done (constrained (is_unconstrained policy_context.policy))) (λ u.
+      Preserves-next _ (Preserves-done (readable image)) (λ u.
+      Preserves-next _ (part_stays searched_stays) (λ found. after_stays found)))

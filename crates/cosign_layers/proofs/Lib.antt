@@ -7,5 +7,5 @@ pub mod Ranges
 pub mod Rows
 pub mod Shows
 pub mod Steps
-pub mod Supports
+pub mod SatisfiesPolicy
 pub mod Texts

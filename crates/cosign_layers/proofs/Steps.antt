@@ -3,7 +3,7 @@ use Rattle.std.proofs.Common.{◌≡◌, ℕ, List, Option, Result, Ok, Err, ap}
 use Rattle.std.specs.Prelude.{MatchBool}
 use Rattle.std.specs.Result.{IsErrAnd}
 use Rattle.cosign_layers.specs.Checks.{Input, Spelled, content_checked, signature_checked, entry_checked, certificate_checked, layer_with, layer_read}
-use Rattle.cosign_layers.specs.Rejection.{◌>>=◌, Says, is_memory}
+use Rattle.cosign_layers.specs.Rejection.{◌>>=◌, Matches, is_memory}
 use Rattle.cosign_layers.specs.Trust.{Trust}
 use Rattle.cosign_layers.specs.declared.certificate.CertificateSignature.{CertificateSignature}
 use Rattle.cosign_layers.specs.declared.layer.SignatureLayer.{SignatureLayer}
@@ -32,26 +32,26 @@ module _ (trust : Trust) (d : List ℕ) (input : Input) where
   abbrev with_content : Shown → Result SignatureLayer LayerRejection
   with_content s = signature_checked s.signature >>= with_signature s
 
-  pub no_content : (x : LayerRejection) (r : Result SignatureLayer LayerRejection) → Refused (content_checked d input) x → IsErrAnd r (λ y. y ≡ x) → Says r (layer_read trust d input)
+  pub no_content : (x : LayerRejection) (r : Result SignatureLayer LayerRejection) → Refused (content_checked d input) x → IsErrAnd r (λ y. y ≡ x) → Matches r (layer_read trust d input)
   no_content x r h is = stopped (content_checked d input) with_content x r h is
 
-  pub no_signature : (s : Shown) (x : LayerRejection) (r : Result SignatureLayer LayerRejection) → content_checked d input ≡ Ok s → Refused (signature_checked s.signature) x → IsErrAnd r (λ y. y ≡ x) → Says r (layer_read trust d input)
+  pub no_signature : (s : Shown) (x : LayerRejection) (r : Result SignatureLayer LayerRejection) → content_checked d input ≡ Ok s → Refused (signature_checked s.signature) x → IsErrAnd r (λ y. y ≡ x) → Matches r (layer_read trust d input)
   no_signature s x r content h is = after (content_checked d input) with_content s r content (stopped (signature_checked s.signature) (with_signature s) x r h is)
 
-  pub no_entry : (s : Shown) (p : Spelled) (x : LayerRejection) (r : Result SignatureLayer LayerRejection) → content_checked d input ≡ Ok s → signature_checked s.signature ≡ Ok p → Refused (entry_checked trust input.kind input.content p.1 s.log_entry) x → IsErrAnd r (λ y. y ≡ x) → Says r (layer_read trust d input)
+  pub no_entry : (s : Shown) (p : Spelled) (x : LayerRejection) (r : Result SignatureLayer LayerRejection) → content_checked d input ≡ Ok s → signature_checked s.signature ≡ Ok p → Refused (entry_checked trust input.kind input.content p.1 s.log_entry) x → IsErrAnd r (λ y. y ≡ x) → Matches r (layer_read trust d input)
   no_entry s p x r content signature h is =
       after (content_checked d input) with_content s r content
       (after (signature_checked s.signature) (with_signature s) p r signature
       (stopped (entry_checked trust input.kind input.content p.1 s.log_entry) (with_entry s p) x r h is))
 
-  pub no_certificate : (s : Shown) (p : Spelled) (e : Option LogEntryBundle) (x : LayerRejection) (r : Result SignatureLayer LayerRejection) → content_checked d input ≡ Ok s → signature_checked s.signature ≡ Ok p → entry_checked trust input.kind input.content p.1 s.log_entry ≡ Ok e → Refused (certificate_checked trust.vouched e s.certificate) x → IsErrAnd r (λ y. y ≡ x) → Says r (layer_read trust d input)
+  pub no_certificate : (s : Shown) (p : Spelled) (e : Option LogEntryBundle) (x : LayerRejection) (r : Result SignatureLayer LayerRejection) → content_checked d input ≡ Ok s → signature_checked s.signature ≡ Ok p → entry_checked trust input.kind input.content p.1 s.log_entry ≡ Ok e → Refused (certificate_checked trust.vouched e s.certificate) x → IsErrAnd r (λ y. y ≡ x) → Matches r (layer_read trust d input)
   no_certificate s p e x r content signature entry h is =
       after (content_checked d input) with_content s r content
       (after (signature_checked s.signature) (with_signature s) p r signature
       (after (entry_checked trust input.kind input.content p.1 s.log_entry) (with_entry s p) e r entry
       (stopped (certificate_checked trust.vouched e s.certificate) (with_certificate s p e) x r h is)))
 
-  pub all_passed : (s : Shown) (p : Spelled) (e : Option LogEntryBundle) (c : Option CertificateSignature) (layer : SignatureLayer) → content_checked d input ≡ Ok s → signature_checked s.signature ≡ Ok p → entry_checked trust input.kind input.content p.1 s.log_entry ≡ Ok e → certificate_checked trust.vouched e s.certificate ≡ Ok c → layer_with input s p.0 e c ≡ layer → Says (let r : Result SignatureLayer LayerRejection = Ok layer in r) (layer_read trust d input)
+  pub all_passed : (s : Shown) (p : Spelled) (e : Option LogEntryBundle) (c : Option CertificateSignature) (layer : SignatureLayer) → content_checked d input ≡ Ok s → signature_checked s.signature ≡ Ok p → entry_checked trust input.kind input.content p.1 s.log_entry ≡ Ok e → certificate_checked trust.vouched e s.certificate ≡ Ok c → layer_with input s p.0 e c ≡ layer → Matches (let r : Result SignatureLayer LayerRejection = Ok layer in r) (layer_read trust d input)
   all_passed s p e c layer content signature entry certificate is =
       after (content_checked d input) with_content s (Ok layer) content
       (after (signature_checked s.signature) (with_signature s) p (Ok layer) signature

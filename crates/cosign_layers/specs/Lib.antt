@@ -10,7 +10,7 @@ pub mod Payload
 pub mod Read
 pub mod Rejection
 pub mod Shown
-pub mod Standing
+pub mod Satisfying
 pub mod Subject
 pub mod Trust
 pub mod Verifier

@@ -9,9 +9,9 @@ is_memory WantOfMemory = true
 is_memory _ = false
 
 -- the result equals this one, unless memory ran out
-abbrev pub Says : {A : Type 0} → Result A LayerRejection → Result A LayerRejection → Type 0
-Says (Ok a) said = said ≡ Ok a
-Says (Err e) said = MatchBool (is_memory e) (Unit {0}) (said ≡ Err e)
+abbrev pub Matches : {A : Type 0} → Result A LayerRejection → Result A LayerRejection → Type 0
+Matches (Ok a) said = said ≡ Ok a
+Matches (Err e) said = MatchBool (is_memory e) (Unit {0}) (said ≡ Err e)
 
 infixl 10 ◌>>=◌
 -- the result of the next step, unless this one returned an error

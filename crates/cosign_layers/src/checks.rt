@@ -4,7 +4,7 @@ ghost use Rattle.cosign_layers.specs.Checks.{came_from, certificate_checked, cer
 ghost use Rattle.cosign_layers.specs.Checks.{content_checked, entry_checked, entry_found, entry_verified};
 ghost use Rattle.cosign_layers.specs.Checks.{input_from, layer_read, layer_with, signature_checked};
 ghost use Rattle.cosign_layers.specs.Layer.{is_logged};
-ghost use Rattle.cosign_layers.specs.Rejection.{Says};
+ghost use Rattle.cosign_layers.specs.Rejection.{Matches};
 ghost use Rattle.cosign_layers.specs.Trust.{trust_of};
 
 use crate::certificate::{CertificateSignature, Evidence};
@@ -36,7 +36,7 @@ pub(crate) fn read_layer<V: SignatureVerifier, O: Offline>(
     source_digest: &str,
     trusted: &Trusted<'_, V, O>,
 ) -> Result<SignatureLayer, LayerRejection>
-    ensures { Says result (layer_read (trust_of V.valid O.vouched trusted.now) source_digest.now
+    ensures { Matches result (layer_read (trust_of V.valid O.vouched trusted.now) source_digest.now
         (input_from pulled.now)) }
 {
     let shown = check_content(alloc, pulled, source_digest)?;
@@ -109,7 +109,7 @@ fn check_content(
     pulled: &Pulled<'_>,
     source_digest: &str,
 ) -> Result<Shown, LayerRejection>
-    ensures { Says result (content_checked source_digest.now (input_from pulled.now)) }
+    ensures { Matches result (content_checked source_digest.now (input_from pulled.now)) }
 {
     if !names_digest(pulled.oci_digest, pulled.content.as_slice()) {
         return Err(LayerRejection::DigestMismatch);
@@ -126,7 +126,7 @@ fn check_content(
 
 // Returns the signature and the bytes that it decodes to.
 fn check_signature(alloc: Global, signature: &Option<Text>) -> Result<(Text, Blob), LayerRejection>
-    ensures { Says result (signature_checked signature.now) }
+    ensures { Matches result (signature_checked signature.now) }
 {
     let Some(signature) = signature else {
         return Err(LayerRejection::NoSignature);
@@ -145,7 +145,7 @@ fn check_entry<V: SignatureVerifier, O: Offline>(
     trusted: &Trusted<'_, V, O>,
     found: &Found<LogEntryBundle>,
 ) -> Result<Option<LogEntryBundle>, LayerRejection>
-    ensures { Says result (entry_checked (trust_of V.valid O.vouched trusted.now)
+    ensures { Matches result (entry_checked (trust_of V.valid O.vouched trusted.now)
         pulled.now.kind pulled.now.content.now signature.now found.now) }
 {
     if trusted.log_keys.entries().is_empty() {
@@ -169,7 +169,7 @@ fn verify_entry<V: SignatureVerifier, O: Offline>(
     trusted: &Trusted<'_, V, O>,
     entry: &LogEntryBundle,
 ) -> Result<Option<LogEntryBundle>, LayerRejection>
-    ensures { Says result (entry_verified (trust_of V.valid O.vouched trusted.now)
+    ensures { Matches result (entry_verified (trust_of V.valid O.vouched trusted.now)
         pulled.now.kind pulled.now.content.now signature.now entry.now) }
 {
     let Some(key) = trusted.log_keys.get(entry.log_id.as_str()) else {
@@ -218,7 +218,7 @@ fn check_certificate<O: Offline>(
     entry: &Option<LogEntryBundle>,
     found: &Found<Blob>,
 ) -> Result<Option<CertificateSignature>, LayerRejection>
-    ensures { Says result (certificate_checked (O.vouched judge.now) entry.now found.now) }
+    ensures { Matches result (certificate_checked (O.vouched judge.now) entry.now found.now) }
 {
     match found {
         Found::Absent => Ok(None),
@@ -237,7 +237,7 @@ fn vouch<O: Offline>(
     entry: &Option<LogEntryBundle>,
     certificate: &Blob,
 ) -> Result<Option<CertificateSignature>, LayerRejection>
-    ensures { Says result (certificate_vouched (O.vouched judge.now) entry.now certificate.now) }
+    ensures { Matches result (certificate_vouched (O.vouched judge.now) entry.now certificate.now) }
 {
     let Some(entry) = entry else {
         return Err(LayerRejection::NoLogEntry);

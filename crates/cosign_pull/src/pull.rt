@@ -3,13 +3,13 @@ ghost use Rattle.std.specs.Prelude.{◌≡◌, IfOk};
 ghost use Rattle.engine_terms.specs.Contexts.{within};
 ghost use Rattle.oci_names.specs.Reference.{digest_of, whole_text};
 ghost use Rattle.engine_terms.specs.declared.settings.Settings.{Settings};
-ghost use Rattle.engine_terms.specs.Error.{Says as SaysEngine};
+ghost use Rattle.engine_terms.specs.Error.{Matches as SaysEngine};
 ghost use Rattle.engine_requests.specs.Requests.{listed, manifest_types};
 ghost use Rattle.engine_answers.specs.Index.{entry_found};
-ghost use Rattle.sig_calls.specs.Error.{is_memory, Says};
-ghost use Rattle.sig_calls.specs.Wording.{worded};
-ghost use Rattle.sig_calls.specs.declared.wording.Called.TheVariants.{Pull};
-ghost use Rattle.sig_calls.specs.Clients.{Fulfils};
+ghost use Rattle.sig_calls.specs.Error.{is_memory, Matches};
+ghost use Rattle.sig_calls.specs.ErrorContext.{with_error_context};
+ghost use Rattle.sig_calls.specs.declared.error_context.Called.TheVariants.{Pull};
+ghost use Rattle.sig_calls.specs.Clients.{ClientMeets};
 ghost use Rattle.cosign_rows.specs.Image.{named_by_reference, document_in, entry_in, layers_row, blobs_row};
 ghost use Rattle.cosign_rows.specs.Image.{with_image, entry_call, entry_row, manifest_row};
 ghost use Rattle.cosign_rows.specs.Image.{after_document, image_row};
@@ -29,7 +29,7 @@ use oci_manifests::{ImageLayer, OciImageManifest, OciManifest};
 use oci_names::Reference;
 use oci_platforms::PlatformResolver;
 use oci_transport::Transport;
-use sig_calls::{Called, ClientCapabilities, SigstoreError, worded};
+use sig_calls::{Called, ClientCapabilities, SigstoreError, with_error_context};
 use std::alloc::{AllocError, Global};
 
 // The four media types of manifests and indexes.
@@ -98,7 +98,7 @@ fn pull_layers<C: ClientCapabilities, T: Transport>(
     descriptors: &[OciDescriptor],
     mut layers: List<ImageLayer>,
 ) -> Result<List<ImageLayer>, SigstoreError>
-    ensures { (s : Settings) → Fulfils is_memory s
+    ensures { (s : Settings) → ClientMeets is_memory s
         (layers_row (within s moment) source.now descriptors.now layers)
         (C.state client.old) (C.state client.new) (T.state transport.old) (T.state transport.new) result }
 {
@@ -120,14 +120,14 @@ fn pull_blobs<C: ClientCapabilities, T: Transport>(
     accepted: &[Text],
     manifest: &OciImageManifest,
 ) -> Result<(Config, List<ImageLayer>), SigstoreError>
-    ensures { (s : Settings) → Fulfils is_memory s
+    ensures { (s : Settings) → ClientMeets is_memory s
         (blobs_row (within s moment) source.now accepted.now manifest.now)
         (C.state client.old) (C.state client.new) (T.state transport.old) (T.state transport.new) result }
 {
     let content = client.pull_blob(alloc, transport, moment, source, &manifest.config)?;
     let descriptors = manifest.layers.as_slice();
     let checked = layers_accepted(alloc, accepted, descriptors);
-    worded(alloc, Called::Pull, source, checked)?;
+    with_error_context(alloc, Called::Pull, source, checked)?;
     let layers = pull_layers(
         alloc,
         client,
@@ -161,12 +161,12 @@ fn entry_of<C: ClientCapabilities>(
     source: &Reference,
     entries: &[ImageIndexEntry],
 ) -> Result<Text, SigstoreError>
-    ensures { Says result (worded Pull (whole_text source.now)
+    ensures { Matches result (with_error_context Pull (whole_text source.now)
         (entry_found (C.state client.now).settings.platform_resolver entries.now)) }
 {
     let resolver = platform_resolver(alloc, client)?;
     let found = entry_found(alloc, &resolver, entries);
-    worded(alloc, Called::Pull, source, found)
+    with_error_context(alloc, Called::Pull, source, found)
 }
 
 // Converts the error of a pull to one that names the source.
@@ -175,7 +175,7 @@ fn with_image(
     source: &Reference,
     found: Result<(Blob, Text), SigstoreError>,
 ) -> Result<(Blob, Text), SigstoreError>
-    ensures { Says result (with_image (whole_text source.now) found) }
+    ensures { Matches result (with_image (whole_text source.now) found) }
 {
     match found {
         Ok(found) => Ok(found),
@@ -205,7 +205,7 @@ fn pull_entry_document<C: ClientCapabilities, T: Transport>(
     source: &Reference,
     entry: &str,
 ) -> Result<(Blob, Text), SigstoreError>
-    ensures { (s : Settings) → Fulfils is_memory s
+    ensures { (s : Settings) → ClientMeets is_memory s
         (entry_call (within s asked.now.moment) source.now asked.now.auth.now entry.now)
         (C.state client.old) (C.state client.new) (T.state transport.old) (T.state transport.new) result }
 {
@@ -231,7 +231,7 @@ fn pull_entry<C: ClientCapabilities, T: Transport>(
     source: &Reference,
     entries: &[ImageIndexEntry],
 ) -> Result<PulledManifest, SigstoreError>
-    ensures { (s : Settings) → Fulfils is_memory s
+    ensures { (s : Settings) → ClientMeets is_memory s
         (entry_row (within s asked.now.moment) source.now asked.now.auth.now entries.now)
         (C.state client.old) (C.state client.new) (T.state transport.old) (T.state transport.new) result }
 {
@@ -239,7 +239,7 @@ fn pull_entry<C: ClientCapabilities, T: Transport>(
     let found = pull_entry_document(alloc, client, transport, asked, source, entry.as_str())?;
     let (bytes, _) = found;
     let read = entry_in(alloc, entry.as_str(), &bytes);
-    let manifest = worded(alloc, Called::Pull, source, read)?;
+    let manifest = with_error_context(alloc, Called::Pull, source, read)?;
     Ok(PulledManifest {
         bytes,
         manifest,
@@ -257,7 +257,7 @@ fn pull_chosen<C: ClientCapabilities, T: Transport>(
     first: &Blob,
     document: OciManifest,
 ) -> Result<PulledManifest, SigstoreError>
-    ensures { (s : Settings) → Fulfils is_memory s
+    ensures { (s : Settings) → ClientMeets is_memory s
         (manifest_row (within s asked.now.moment) source.now asked.now.auth.now first.now document)
         (C.state client.old) (C.state client.new) (T.state transport.old) (T.state transport.new) result }
 {
@@ -287,13 +287,13 @@ fn after_document<C: ClientCapabilities, T: Transport>(
     accepted: &[Text],
     first: Blob,
 ) -> Result<Pulled, SigstoreError>
-    ensures { (s : Settings) → Fulfils is_memory s
+    ensures { (s : Settings) → ClientMeets is_memory s
         (after_document (within s asked.now.moment) asked.now.image.now source.now asked.now.auth.now
         accepted.now first)
         (C.state client.old) (C.state client.new) (T.state transport.old) (T.state transport.new) result }
 {
     let read = document_in(alloc, asked.image, &first);
-    let document = worded(alloc, Called::Pull, source, read)?;
+    let document = with_error_context(alloc, Called::Pull, source, read)?;
     let chosen = pull_chosen(alloc, client, transport, asked, source, &first, document)?;
     let moment = asked.moment;
     let manifest = &chosen.manifest;
@@ -317,7 +317,7 @@ pub fn pull_image<C: ClientCapabilities, T: Transport>(
     source: &Reference,
     accepted: &[Text],
 ) -> Result<Pulled, SigstoreError>
-    ensures { (s : Settings) → Fulfils is_memory s
+    ensures { (s : Settings) → ClientMeets is_memory s
         (image_row (within s asked.now.moment) asked.now.image.now source.now asked.now.auth.now accepted.now)
         (C.state client.old) (C.state client.new) (T.state transport.old) (T.state transport.new) result }
 {

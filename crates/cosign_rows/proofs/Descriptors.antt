@@ -12,7 +12,7 @@ use Rattle.engine_terms.specs.declared.settings.Settings.{Settings}
 use Rattle.engine_rows.specs.Image.{layer_of}
 use Rattle.sig_calls.specs.declared.error.SigstoreError.{SigstoreError}
 use Rattle.sig_calls.specs.Error.{is_memory}
-use Rattle.sig_calls.specs.Clients.{Client, Fulfils}
+use Rattle.sig_calls.specs.Clients.{Client, ClientMeets}
 use Rattle.sig_calls.specs.Calls.{blob_call}
 use Rattle.cosign_layers.specs.Trust.{Trust}
 use Rattle.cosign_rows.specs.declared.found.Part.{Part}
@@ -23,12 +23,12 @@ use Rattle.cosign_rows.proofs.Exits.{done}
 pub at_next : {A : Type 0} (xs : List A) (i : ℕ) (x : A) → i < length xs → x ≡ get_or xs i x → drop i xs ≡ x ∷ drop (i + 1) xs
 at_next {A} xs i x lt is = rw add-one (drop-cons xs i x lt ∙ ap (λ (y : A). y ∷ drop (suc i) xs) (sym is))
 
-pub layers_end : {s : Settings} (moment : ℕ) (source : Reference) (xs : List OciDescriptor) (layers : List ImageLayer) {c : Client} {link : Link} → xs ≡ [] → Fulfils is_memory s (layers_row (within s moment) source xs layers) c c link link (Ok layers)
+pub layers_end : {s : Settings} (moment : ℕ) (source : Reference) (xs : List OciDescriptor) (layers : List ImageLayer) {c : Client} {link : Link} → xs ≡ [] → ClientMeets is_memory s (layers_row (within s moment) source xs layers) c c link link (Ok layers)
 unfolding layers_row
 layers_end moment source xs layers h = rw h done
 
 pub layers_next : {s : Settings} (moment : ℕ) (source : Reference) (xs : List OciDescriptor) (i : ℕ) (x : OciDescriptor) (layers : List ImageLayer) {c e : Client} {old new : Link} {r : Result (List ImageLayer) SigstoreError} → i < length xs → x ≡ get_or xs i x
-    → Fulfils is_memory s (blob_call (within s moment) source (described x) >>= (λ content. layers_row (within s moment) source (drop (i + 1) xs) (layers ++ layer_of x content ∷ []))) c e old new r → Fulfils is_memory s (layers_row (within s moment) source (drop i xs) layers) c e old new r
+    → ClientMeets is_memory s (blob_call (within s moment) source (described x) >>= (λ content. layers_row (within s moment) source (drop (i + 1) xs) (layers ++ layer_of x content ∷ []))) c e old new r → ClientMeets is_memory s (layers_row (within s moment) source (drop i xs) layers) c e old new r
 unfolding layers_row
 layers_next moment source xs i x layers lt is rest = rw (at_next xs i x lt is) rest
 

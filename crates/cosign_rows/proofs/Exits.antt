@@ -5,8 +5,8 @@ use Rattle.std.specs.Result.{IsErrAnd}
 use Rattle.std.proofs.lemmas.Result.{err_from_is_err_and}
 use Rattle.oci_transport.specs.Link.{Link}
 use Rattle.oci_protocol.specs.Proto.{Proto, Done, bind, unless_refused, ◌>>=◌}
-use Rattle.oci_protocol.specs.Runs.{Meets, Breaks, Performs}
-use Rattle.oci_protocol.proofs.Laws.{Meets-next, Meets-refused, Meets-ok, Meets-err, Meets-memory, Meets-caught, Breaks-first, Breaks-start, Performs-done}
+use Rattle.oci_protocol.specs.Runs.{Meets, PerformsPrefix, Performs}
+use Rattle.oci_protocol.proofs.Laws.{Meets-next, Meets-refused, Meets-ok, Meets-err, Meets-memory, Meets-caught, PerformsPrefix-first, PerformsPrefix-start, Performs-done}
 use Rattle.engine_terms.specs.Contexts.{Context}
 use Rattle.engine_terms.specs.declared.settings.Settings.{Settings}
 use Rattle.oci_auth.specs.declared.auth.RegistryAuth.{RegistryAuth}
@@ -14,79 +14,79 @@ use Rattle.sig_calls.specs.Calls.{digest_call}
 use Rattle.sig_calls.specs.declared.error.SigstoreError.{SigstoreError}
 use Rattle.sig_calls.specs.declared.error.SigstoreError.TheVariants as sigstore
 use Rattle.engine_terms.specs.declared.error.OciDistributionError.{OciDistributionError}
-use Rattle.engine_terms.specs.Error.{is_memory as engine_is_memory, Says as SaysEngine}
-use Rattle.sig_calls.specs.declared.wording.Called.{Called}
+use Rattle.engine_terms.specs.Error.{is_memory as engine_is_memory, Matches as SaysEngine}
+use Rattle.sig_calls.specs.declared.error_context.Called.{Called}
 use Rattle.cosign_rows.specs.declared.refusal.PullRefusal.{PullRefusal}
-use Rattle.cosign_rows.specs.Refusal.{is_memory as of_refusal, refused_as, Says as SaysWhole}
+use Rattle.cosign_rows.specs.Refusal.{is_memory as of_refusal, refused_as, Matches as SaysWhole}
 use Rattle.cosign_chain.specs.declared.image.VerifiedImage.{VerifiedImage}
 use Rattle.cosign_rows.specs.Image.{with_image}
 use Rattle.cosign_rows.specs.References.{signature_tag, tag_reference}
 use Rattle.cosign_rows.specs.Triangulated.{tag_shown, triangulated}
-use Rattle.cosign_rows.specs.Verified.{as_whole, constrained, part_of, readable_by, stood_image, verified_image}
+use Rattle.cosign_rows.specs.Verified.{as_whole, constrained, part_of, readable_by, signed_image, verified_image}
 use Rattle.cosign_rows.specs.declared.pulled.Pulled.{Pulled}
-use Rattle.cosign_rows.specs.declared.standing.Standing.{Standing}
+use Rattle.cosign_rows.specs.declared.signed_digest.SignedDigest.{SignedDigest}
 use Rattle.cosign_rows.specs.declared.refusal.PullRefusal.TheVariants as refusal
 use Rattle.oci_names.specs.declared.reference.Reference.{Reference}
 use Rattle.oci_names.specs.Reference.{registry_of, repository_of, mirror_of, tag_of, digest_of}
 use Rattle.sig_calls.specs.declared.reference.OciReference.{OciReference}
-use Rattle.sig_calls.specs.Error.{is_memory, Says}
-use Rattle.sig_calls.specs.Wording.{worded}
-use Rattle.sig_calls.specs.Clients.{Kept, Client, Fulfils}
+use Rattle.sig_calls.specs.Error.{is_memory, Matches}
+use Rattle.sig_calls.specs.ErrorContext.{with_error_context}
+use Rattle.sig_calls.specs.Clients.{Kept, Client, ClientMeets}
 
 -- a step that succeeded, followed by the row that its result leads to
 pub and_then : {A B E : Type 0} {om : E → Bool} {s : Settings} {p : Proto Kept (Result A E)} (f : A → Proto Kept (Result B E)) {c d e : Client} {old mid new : Link} {a : A} {r : Result B E}
-    → Fulfils om s p c d old mid (Ok a) → Fulfils om s (f a) d e mid new r → Fulfils om s (p >>= f) c e old new r
+    → ClientMeets om s p c d old mid (Ok a) → ClientMeets om s (f a) d e mid new r → ClientMeets om s (p >>= f) c e old new r
 and_then f first second = record { made = λ at. let one = first.made at in let two = second.made one.0 in (two.0, Meets-next f one.1 two.1) }
 
 -- a step that was refused, at the exit of a `?`
 pub refused : {A B E : Type 0} {om : E → Bool} {s : Settings} {p : Proto Kept (Result A E)} (f : A → Proto Kept (Result B E)) {c d : Client} {old new : Link} {x : E} {r : Result B E}
-    → Fulfils om s p c d old new (Err x) → IsErrAnd r (λ y. y ≡ x) → Fulfils om s (p >>= f) c d old new r
+    → ClientMeets om s p c d old new (Err x) → IsErrAnd r (λ y. y ≡ x) → ClientMeets om s (p >>= f) c d old new r
 refused f {r = r} first is = let at = err_from_is_err_and r is in rw (at.1, at.2) (record { made = λ h. let one = first.made h in (one.0, Meets-refused f one.1) })
 
 -- memory ran out between two calls
-pub wanting : {A E : Type 0} {om : E → Bool} {s : Settings} {p : Proto Kept (Result A E)} {c : Client} {link : Link} (x : E) {r : Result A E} → om x ≡ true → IsErrAnd r (λ y. y ≡ x) → Fulfils om s p c c link link r
+pub wanting : {A E : Type 0} {om : E → Bool} {s : Settings} {p : Proto Kept (Result A E)} {c : Client} {link : Link} (x : E) {r : Result A E} → om x ≡ true → IsErrAnd r (λ y. y ≡ x) → ClientMeets om s p c c link link r
 wanting {om = om} {p = p} {c = c} {link = link} x {r = r} memory is = let at = err_from_is_err_and r is in rw (at.1, at.2) (record { made = λ h. (h, Meets-memory om p link c.kept x memory) })
 
 -- a row that was refused, at the exit of a `?`
-pub passed : {A E : Type 0} {om : E → Bool} {s : Settings} {p : Proto Kept (Result A E)} {c d : Client} {old new : Link} {x : E} {r : Result A E} → Fulfils om s p c d old new (Err x) → IsErrAnd r (λ y. y ≡ x) → Fulfils om s p c d old new r
+pub passed : {A E : Type 0} {om : E → Bool} {s : Settings} {p : Proto Kept (Result A E)} {c d : Client} {old new : Link} {x : E} {r : Result A E} → ClientMeets om s p c d old new (Err x) → IsErrAnd r (λ y. y ≡ x) → ClientMeets om s p c d old new r
 passed {r = r} first is = let at = err_from_is_err_and r is in rw (at.1, at.2) first
 
-pub done : {A E : Type 0} {om : E → Bool} {s : Settings} {c : Client} {link : Link} {a : A} → Fulfils om s (Done (Ok a)) c c link link (Ok a)
+pub done : {A E : Type 0} {om : E → Bool} {s : Settings} {c : Client} {link : Link} {a : A} → ClientMeets om s (Done (Ok a)) c c link link (Ok a)
 done {om = om} {c = c} {link = link} {a = a} = record { made = λ h. (h, Meets-ok om link c.kept a) }
 
-pub failed : {A E : Type 0} {om : E → Bool} {s : Settings} {c : Client} {link : Link} {x : E} → om x ≡ false → Fulfils {A = A} om s (Done (Err x)) c c link link (Err x)
+pub failed : {A E : Type 0} {om : E → Bool} {s : Settings} {c : Client} {link : Link} {x : E} → om x ≡ false → ClientMeets {A = A} om s (Done (Err x)) c c link link (Err x)
 failed {om = om} {c = c} {link = link} {x = x} h = record { made = λ at. (at, Meets-err om link c.kept x h) }
 
 -- a step without a call
-pub said : {A : Type 0} {s : Settings} (r : Result A SigstoreError) {w : Result A SigstoreError} {c : Client} {link : Link} → Says r w → Fulfils is_memory s (Done w) c c link link r
+pub said : {A : Type 0} {s : Settings} (r : Result A SigstoreError) {w : Result A SigstoreError} {c : Client} {link : Link} → Matches r w → ClientMeets is_memory s (Done w) c c link link r
 said (Ok a) h = rw h done
 said {A} (Err e) {w = w} {c = c} {link = link} h = record { made = λ at. (at, record { outcome = refusing (is_memory e) h }) } where
-  refusing : (b : Bool) → MatchBool b (Unit {0}) (w ≡ Err e) → MatchBool b (Breaks {A = Result A SigstoreError} (Done w) link link c.kept c.kept) (Performs (Done w) link link c.kept c.kept (Err e))
-  refusing true h = Breaks-start (Done w) link c.kept
+  refusing : (b : Bool) → MatchBool b (Unit {0}) (w ≡ Err e) → MatchBool b (PerformsPrefix {A = Result A SigstoreError} (Done w) link link c.kept c.kept) (Performs (Done w) link link c.kept c.kept (Err e))
+  refusing true h = PerformsPrefix-start (Done w) link c.kept
   refusing false h = rw h (Performs-done link c.kept (Err e))
 
 -- a call that succeeded, and what the row computes from its result
 pub caught : {A B E F : Type 0} {ox : E → Bool} {om : F → Bool} {s : Settings} {p : Proto Kept (Result A E)} (f : Result A E → Proto Kept (Result B F)) {c d e : Client} {old mid new : Link} {a : A} {r : Result B F}
-    → Fulfils ox s p c d old mid (Ok a) → Fulfils om s (f (Ok a)) d e mid new r → Fulfils om s (bind p f) c e old new r
+    → ClientMeets ox s p c d old mid (Ok a) → ClientMeets om s (f (Ok a)) d e mid new r → ClientMeets om s (bind p f) c e old new r
 caught f first second = record { made = λ at. let one = first.made at in let two = second.made one.0 in (two.0, Meets-caught f (one.1).outcome two.1) }
 
-performed : {A E : Type 0} (ox : E → Bool) {p : Proto Kept (Result A E)} {old new : Link} {k l : Kept} (x : E) (b : Bool) → b ≡ ox x → b ≡ false → MatchBool b (Breaks p old new k l) (Performs p old new k l (Err x)) → Performs p old new k l (Err x)
+performed : {A E : Type 0} (ox : E → Bool) {p : Proto Kept (Result A E)} {old new : Link} {k l : Kept} (x : E) (b : Bool) → b ≡ ox x → b ≡ false → MatchBool b (PerformsPrefix p old new k l) (Performs p old new k l (Err x)) → Performs p old new k l (Err x)
 performed ox x false is other h = h
 performed ox x true is other h = absurd (cc other)
 
 -- a call that was refused, and what the row computes from the error
 pub caught_refusal : {A B E F : Type 0} {ox : E → Bool} {om : F → Bool} {s : Settings} {p : Proto Kept (Result A E)} (f : Result A E → Proto Kept (Result B F)) {c d e : Client} {old mid new : Link} {x : E} {r : Result B F}
-    → Fulfils ox s p c d old mid (Err x) → ox x ≡ false → Fulfils om s (f (Err x)) d e mid new r → Fulfils om s (bind p f) c e old new r
+    → ClientMeets ox s p c d old mid (Err x) → ox x ≡ false → ClientMeets om s (f (Err x)) d e mid new r → ClientMeets om s (bind p f) c e old new r
 caught_refusal {ox = ox} f {x = x} first other second = record { made = λ at. let one = first.made at in let two = second.made one.0 in (two.0, Meets-caught f (performed ox x (ox x) refl other (one.1).outcome) two.1) }
 
-broken : {A E : Type 0} {p : Proto Kept (Result A E)} {old new : Link} {k l : Kept} (x : E) (b : Bool) → b ≡ true → MatchBool b (Breaks p old new k l) (Performs p old new k l (Err x)) → Breaks p old new k l
+broken : {A E : Type 0} {p : Proto Kept (Result A E)} {old new : Link} {k l : Kept} (x : E) (b : Bool) → b ≡ true → MatchBool b (PerformsPrefix p old new k l) (Performs p old new k l (Err x)) → PerformsPrefix p old new k l
 broken x true is h = h
 broken x false is h = absurd (cc is)
 
 -- a call that was cut short because memory ran out
 pub cut_off : {A B E F : Type 0} {ox : E → Bool} {om : F → Bool} {s : Settings} {p : Proto Kept (Result A E)} (f : Result A E → Proto Kept (Result B F)) {c d : Client} {old new : Link} {x : E} {y : F}
-    → Fulfils ox s p c d old new (Err x) → ox x ≡ true → om y ≡ true → Fulfils om s (bind p f) c d old new (Err y)
-cut_off {ox = ox} f {x = x} first is memory = record { made = λ at. let one = first.made at in (one.0, record { outcome = rw memory (Breaks-first f (broken x (ox x) is (one.1).outcome)) }) }
+    → ClientMeets ox s p c d old new (Err x) → ox x ≡ true → om y ≡ true → ClientMeets om s (bind p f) c d old new (Err y)
+cut_off {ox = ox} f {x = x} first is memory = record { made = λ at. let one = first.made at in (one.0, record { outcome = rw memory (PerformsPrefix-first f (broken x (ox x) is (one.1).outcome)) }) }
 
 true_false : true ≡ false → ⊥
 true_false h = cc h
@@ -97,28 +97,28 @@ wants (Err e) = is_memory e
 
 -- a call that was refused, and a step without a call on its error; out of memory stays out of memory
 pub said_refusal : {A B : Type 0} {s : Settings} {p : Proto Kept (Result A SigstoreError)} (f : Result A SigstoreError → Proto Kept (Result B SigstoreError)) {c d : Client} {old new : Link} {e : SigstoreError} {w t : Result B SigstoreError}
-    → f (Err e) ≡ Done w → (is_memory e ≡ true → w ≡ Err e) → Fulfils is_memory s p c d old new (Err e) → Says t w → Fulfils is_memory s (bind p f) c d old new t
+    → f (Err e) ≡ Done w → (is_memory e ≡ true → w ≡ Err e) → ClientMeets is_memory s p c d old new (Err e) → Matches t w → ClientMeets is_memory s (bind p f) c d old new t
 said_refusal {A} {B} {s} {p} f {c} {d} {old} {new} {e} {w} {t} is stays first says = by_memory (is_memory e) refl where
-  wanted : (t : Result B SigstoreError) → is_memory e ≡ true → Says t (Err e) → Fulfils is_memory s (bind p f) c d old new t
+  wanted : (t : Result B SigstoreError) → is_memory e ≡ true → Matches t (Err e) → ClientMeets is_memory s (bind p f) c d old new t
   wanted (Ok b) memory h = absurd (cc (sym memory ∙ ap wants h))
   wanted (Err y) memory h = by_cause (is_memory y) refl h where
-    by_cause : (b : Bool) → is_memory y ≡ b → MatchBool b (Unit {0}) (◌≡◌ {A = Result B SigstoreError} (Err e) (Err y)) → Fulfils is_memory s (bind p f) c d old new (Err y)
+    by_cause : (b : Bool) → is_memory y ≡ b → MatchBool b (Unit {0}) (◌≡◌ {A = Result B SigstoreError} (Err e) (Err y)) → ClientMeets is_memory s (bind p f) c d old new (Err y)
     by_cause true same h = cut_off f first memory same
     by_cause false other h = absurd (cc (sym memory ∙ ap wants h ∙ other))
 
-  by_memory : (b : Bool) → is_memory e ≡ b → Fulfils is_memory s (bind p f) c d old new t
+  by_memory : (b : Bool) → is_memory e ≡ b → ClientMeets is_memory s (bind p f) c d old new t
   by_memory true memory = wanted t memory (rw (stays memory) at says)
   by_memory false other = caught_refusal f first other (rw is (said t says))
 
 -- a result or an error, and a step without a call on it; out of memory stays out of memory
 pub said_of : {A B : Type 0} {s : Settings} {p : Proto Kept (Result A SigstoreError)} (f : Result A SigstoreError → Result B SigstoreError) {c d : Client} {old new : Link} (r : Result A SigstoreError) {t : Result B SigstoreError}
-    → ((e : SigstoreError) → is_memory e ≡ true → f (Err e) ≡ Err e) → Fulfils is_memory s p c d old new r → Says t (f r) → Fulfils is_memory s (bind p (λ x. Done (f x))) c d old new t
+    → ((e : SigstoreError) → is_memory e ≡ true → f (Err e) ≡ Err e) → ClientMeets is_memory s p c d old new r → Matches t (f r) → ClientMeets is_memory s (bind p (λ x. Done (f x))) c d old new t
 said_of f (Ok a) {t = t} stays first says = caught (λ x. Done (f x)) first (said t says)
 said_of f (Err e) stays first says = said_refusal (λ x. Done (f x)) refl (stays e) first says
 
 -- a step without a call that depends on the client's settings
-pub said_at : {A : Type 0} {s : Settings} (w : Settings → Result A SigstoreError) (r : Result A SigstoreError) {c : Client} {link : Link} → Says r (w c.settings) → Fulfils is_memory s (Done (w s)) c c link link r
-said_at {s = s} w r {c = c} {link = link} h = record { made = λ at. (said r (subst (λ t. Says r (w t)) at h)).made at }
+pub said_at : {A : Type 0} {s : Settings} (w : Settings → Result A SigstoreError) (r : Result A SigstoreError) {c : Client} {link : Link} → Matches r (w c.settings) → ClientMeets is_memory s (Done (w s)) c c link link r
+said_at {s = s} w r {c = c} {link = link} h = record { made = λ at. (said r (subst (λ t. Matches r (w t)) at h)).made at }
 
 -- an out-of-memory error holds no image
 pub with_stays : {A : Type 0} (text : List ℕ) (e : SigstoreError) → is_memory e ≡ true → (let r : Result A SigstoreError = Err e in with_image text r) ≡ Err e
@@ -130,16 +130,16 @@ with_stays text sigstore.WantOfMemory h = refl
 
 -- the same, if the row continues with a result only
 pub said_next : {A B : Type 0} {s : Settings} {p : Proto Kept (Result A SigstoreError)} (f : A → B) (g : Result A SigstoreError → Result B SigstoreError) {c d : Client} {old new : Link} (r : Result A SigstoreError) {t : Result B SigstoreError}
-    → ((a : A) → g (Ok a) ≡ Ok (f a)) → ((e : SigstoreError) → g (Err e) ≡ Err e) → Fulfils is_memory s p c d old new r → Says t (g r) → Fulfils is_memory s (p >>= (λ a. Done (Ok (f a)))) c d old new t
-said_next f g (Ok a) {t = t} works stays first says = caught (unless_refused (λ a. Done (Ok (f a)))) first (said t (subst (Says t) (works a) says))
-said_next f g (Err e) {t = t} works stays first says = said_refusal (unless_refused (λ a. Done (Ok (f a)))) refl (λ is. refl) first (subst (Says t) (stays e) says)
+    → ((a : A) → g (Ok a) ≡ Ok (f a)) → ((e : SigstoreError) → g (Err e) ≡ Err e) → ClientMeets is_memory s p c d old new r → Matches t (g r) → ClientMeets is_memory s (p >>= (λ a. Done (Ok (f a)))) c d old new t
+said_next f g (Ok a) {t = t} works stays first says = caught (unless_refused (λ a. Done (Ok (f a)))) first (said t (subst (Matches t) (works a) says))
+said_next f g (Err e) {t = t} works stays first says = said_refusal (unless_refused (λ a. Done (Ok (f a)))) refl (λ is. refl) first (subst (Matches t) (stays e) says)
 
 -- a step of the whole pull without a call
-pub said_whole : {A : Type 0} {s : Settings} (r : Result A PullRefusal) {w : Result A PullRefusal} {c : Client} {link : Link} → SaysWhole r w → Fulfils of_refusal s (Done w) c c link link r
+pub said_whole : {A : Type 0} {s : Settings} (r : Result A PullRefusal) {w : Result A PullRefusal} {c : Client} {link : Link} → SaysWhole r w → ClientMeets of_refusal s (Done w) c c link link r
 said_whole (Ok a) h = rw h done
 said_whole {A} (Err e) {w = w} {c = c} {link = link} h = record { made = λ at. (at, record { outcome = refusing (of_refusal e) h }) } where
-  refusing : (b : Bool) → MatchBool b (Unit {0}) (w ≡ Err e) → MatchBool b (Breaks {A = Result A PullRefusal} (Done w) link link c.kept c.kept) (Performs (Done w) link link c.kept c.kept (Err e))
-  refusing true h = Breaks-start (Done w) link c.kept
+  refusing : (b : Bool) → MatchBool b (Unit {0}) (w ≡ Err e) → MatchBool b (PerformsPrefix {A = Result A PullRefusal} (Done w) link link c.kept c.kept) (Performs (Done w) link link c.kept c.kept (Err e))
+  refusing true h = PerformsPrefix-start (Done w) link c.kept
   refusing false h = rw h (Performs-done link c.kept (Err e))
 
 memory_as : (x : SigstoreError) → is_memory x ≡ true → of_refusal (refused_as x) ≡ true
@@ -158,28 +158,28 @@ other_as (sigstore.RegistryPullManifestError image error) h = refl
 
 -- a part that was refused, with its error converted to the pull's
 pub refused_whole : {A B : Type 0} {s : Settings} {p : Proto Kept (Result A SigstoreError)} (f : Result A SigstoreError → Proto Kept (Result B PullRefusal)) {c d : Client} {old new : Link} {x : SigstoreError}
-    → f (Err x) ≡ Done (Err (refused_as x)) → Fulfils is_memory s p c d old new (Err x) → Fulfils of_refusal s (bind p f) c d old new (Err (refused_as x))
+    → f (Err x) ≡ Done (Err (refused_as x)) → ClientMeets is_memory s p c d old new (Err x) → ClientMeets of_refusal s (bind p f) c d old new (Err (refused_as x))
 refused_whole {A} {B} {s} {p} f {c} {d} {old} {new} {x} is first = by_memory (is_memory x) refl where
-  by_memory : (b : Bool) → is_memory x ≡ b → Fulfils of_refusal s (bind p f) c d old new (Err (refused_as x))
+  by_memory : (b : Bool) → is_memory x ≡ b → ClientMeets of_refusal s (bind p f) c d old new (Err (refused_as x))
   by_memory true memory = cut_off f first memory (memory_as x memory)
   by_memory false other = caught_refusal f first other (rw is (failed (other_as x other)))
 
 -- a step of the engine without a request, with context
-pub in_words_said : {A : Type 0} (called : Called) (text : List ℕ) (r w : Result A OciDistributionError) (t : Result A SigstoreError) → SaysEngine r w → Says t (worded called text r) → Says t (worded called text w)
+pub in_words_said : {A : Type 0} (called : Called) (text : List ℕ) (r w : Result A OciDistributionError) (t : Result A SigstoreError) → SaysEngine r w → Matches t (with_error_context called text r) → Matches t (with_error_context called text w)
 in_words_said called text (Ok a) w t h says = rw h says
 in_words_said {A} called text (Err e) w t h says = by_memory (engine_is_memory e) refl h where
-  any : (t : Result A SigstoreError) → Says t (Err sigstore.WantOfMemory) → Says t (worded called text w)
+  any : (t : Result A SigstoreError) → Matches t (Err sigstore.WantOfMemory) → Matches t (with_error_context called text w)
   any (Ok a) h = absurd (true_false (ap wants h))
   any (Err x) h = by_cause (is_memory x) refl h where
-    by_cause : (b : Bool) → is_memory x ≡ b → MatchBool b (Unit {0}) (◌≡◌ {A = Result A SigstoreError} (Err sigstore.WantOfMemory) (Err x)) → MatchBool b (Unit {0}) (worded called text w ≡ Err x)
+    by_cause : (b : Bool) → is_memory x ≡ b → MatchBool b (Unit {0}) (◌≡◌ {A = Result A SigstoreError} (Err sigstore.WantOfMemory) (Err x)) → MatchBool b (Unit {0}) (with_error_context called text w ≡ Err x)
     by_cause true is h = tt
     by_cause false is h = absurd (true_false (ap wants h ∙ is))
 
-  by_memory : (b : Bool) → engine_is_memory e ≡ b → MatchBool b (Unit {0}) (w ≡ Err e) → Says t (worded called text w)
+  by_memory : (b : Bool) → engine_is_memory e ≡ b → MatchBool b (Unit {0}) (w ≡ Err e) → Matches t (with_error_context called text w)
   by_memory true is h = any t (rw is at says)
   by_memory false is h = rw h says
 
-pub worded_said : {A : Type 0} {s : Settings} (called : Called) (text : List ℕ) (r w : Result A OciDistributionError) (t : Result A SigstoreError) {c : Client} {link : Link} → SaysEngine r w → Says t (worded called text r) → Fulfils is_memory s (Done (worded called text w)) c c link link t
+pub worded_said : {A : Type 0} {s : Settings} (called : Called) (text : List ℕ) (r w : Result A OciDistributionError) (t : Result A SigstoreError) {c : Client} {link : Link} → SaysEngine r w → Matches t (with_error_context called text r) → ClientMeets is_memory s (Done (with_error_context called text w)) c c link link t
 worded_said called text r w t h says = said t (in_words_said called text r w t h says)
 
 -- memory ran out before any request was sent
@@ -187,18 +187,18 @@ pub meets_wanting : {A E : Type 0} {om : E → Bool} {p : Proto Kept (Result A E
 meets_wanting {om = om} {p = p} {k = k} {link = link} x {r = r} memory is = let at = err_from_is_err_and r is in rw (at.1, at.2) (Meets-memory om p link k x memory)
 
 -- a part that succeeded, as a part of the whole pull
-pub part_answered : {A : Type 0} {s : Settings} {p : Proto Kept (Result A SigstoreError)} {c d : Client} {old new : Link} {a : A} → Fulfils is_memory s p c d old new (Ok a) → Fulfils of_refusal s (part_of p) c d old new (Ok a)
+pub part_answered : {A : Type 0} {s : Settings} {p : Proto Kept (Result A SigstoreError)} {c d : Client} {old new : Link} {a : A} → ClientMeets is_memory s p c d old new (Ok a) → ClientMeets of_refusal s (part_of p) c d old new (Ok a)
 unfolding part_of
 part_answered first = caught (λ r. Done (as_whole r)) first done
 
 -- a part that was refused, as a part of the whole pull
-pub part_refused : {A : Type 0} {s : Settings} {p : Proto Kept (Result A SigstoreError)} {c d : Client} {old new : Link} {x : SigstoreError} → Fulfils is_memory s p c d old new (Err x) → Fulfils of_refusal s (part_of p) c d old new (Err (refused_as x))
+pub part_refused : {A : Type 0} {s : Settings} {p : Proto Kept (Result A SigstoreError)} {c d : Client} {old new : Link} {x : SigstoreError} → ClientMeets is_memory s p c d old new (Err x) → ClientMeets of_refusal s (part_of p) c d old new (Err (refused_as x))
 unfolding part_of
 part_refused first = refused_whole (λ r. Done (as_whole r)) refl first
 
 -- the pulled image or its error, as the result of the whole pull
-pub stood_then : {s : Settings} {p : Proto Kept (Result Pulled SigstoreError)} (stood : Standing) {c d : Client} {old new : Link} (r : Result Pulled SigstoreError) {t : Result VerifiedImage PullRefusal}
-    → Fulfils is_memory s p c d old new r → t ≡ stood_image stood r → Fulfils of_refusal s (part_of p >>= (λ pulled. Done (Ok (verified_image stood pulled)))) c d old new t
+pub stood_then : {s : Settings} {p : Proto Kept (Result Pulled SigstoreError)} (stood : SignedDigest) {c d : Client} {old new : Link} (r : Result Pulled SigstoreError) {t : Result VerifiedImage PullRefusal}
+    → ClientMeets is_memory s p c d old new r → t ≡ signed_image stood r → ClientMeets of_refusal s (part_of p >>= (λ pulled. Done (Ok (verified_image stood pulled)))) c d old new t
 stood_then stood (Ok pulled) first is = rw is (and_then _ (part_answered first) done)
 stood_then stood (Err e) first is = rw is (record { made = λ at. let one = (part_refused first).made at in (one.0, Meets-refused _ one.1) })
 
@@ -237,6 +237,6 @@ shown_refusal x (Ok found) h = absurd h
 shown_refusal x (Err e) h = h
 
 -- the reference of the tag of the returned digest
-pub tag_made : {t : Settings} (s : Context) (image : Reference) (a : RegistryAuth) {c d : Client} {old new : Link} (digest : List ℕ) (tag : Reference) → Fulfils is_memory t (digest_call s image a) c d old new (Ok digest) → tag ≡ tag_reference image digest → Fulfils is_memory t (triangulated s image a) c d old new (Ok (tag, digest))
+pub tag_made : {t : Settings} (s : Context) (image : Reference) (a : RegistryAuth) {c d : Client} {old new : Link} (digest : List ℕ) (tag : Reference) → ClientMeets is_memory t (digest_call s image a) c d old new (Ok digest) → tag ≡ tag_reference image digest → ClientMeets is_memory t (triangulated s image a) c d old new (Ok (tag, digest))
 unfolding triangulated
 tag_made s image a digest tag first is = and_then _ first (rw is done)

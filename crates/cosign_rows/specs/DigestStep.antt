@@ -11,7 +11,7 @@ use Rattle.sig_calls.specs.declared.error.SigstoreError.TheVariants as sigstore
 use Rattle.sig_calls.specs.Calls.{digest_call}
 use Rattle.cosign_rows.specs.declared.refusal.PullRefusal.{PullRefusal}
 use Rattle.cosign_rows.specs.Refusal.{is_memory}
-use Rattle.cosign_rows.specs.Points.{Point, Ran, Silent}
+use Rattle.cosign_rows.specs.Snapshots.{Snapshot, RanBetween, NoOp}
 use Rattle.cosign_rows.specs.References.{digest_reference}
 
 -- the pull was refused with `e`, or memory ran out
@@ -25,20 +25,20 @@ unchanged e = e
 -- What the result of the digest step decides: its error is the error of the whole call; and if it is a digest by which
 -- the image's reference does not round-trip, so is that reference's text. No more requests are sent then.
 abbrev pub Decides : {A E : Type 0} → (SigstoreError → E) → Reference → Result (List ℕ) SigstoreError
-    → Point → List Exchange → Point → Result A E → Type 0
-Decides refused image (Err e) between rest end r = (r ≡ Err (refused e)) × Silent between rest end
+    → Snapshot → List Exchange → Snapshot → Result A E → Type 0
+Decides refused image (Err e) between rest end r = (r ≡ Err (refused e)) × NoOp between rest end
 Decides refused image (Ok digest) between rest end r =
     reads_back (digest_reference image digest) ≡ false
     → (r ≡ Err (refused (sigstore.OciReferenceNotValidError (whole_text (digest_reference image digest)))))
-    × Silent between rest end
+    × NoOp between rest end
 
 -- the exchanges begin with those of the digest step, and its result decides the rest
 pub record BeginsWithDigest {A E : Type 0} (refused : SigstoreError → E) (s : Context) (image : Reference)
-    (a : RegistryAuth) (start : Point) (c : List Exchange) (end : Point) (r : Result A E) : Type 0 where
+    (a : RegistryAuth) (start : Snapshot) (c : List Exchange) (end : Snapshot) (r : Result A E) : Type 0 where
   pub step : List Exchange
   pub rest : List Exchange
   pub split : c ≡ step ++ rest
-  pub between : Point
+  pub between : Snapshot
   pub answer : Result (List ℕ) SigstoreError
-  pub ran : Ran (digest_call s image a) start step between answer
+  pub ran : RanBetween (digest_call s image a) start step between answer
   pub decides : Decides refused image answer between rest end r

@@ -23,8 +23,8 @@ use Rattle.engine_answers.specs.Index.{entry_found, entry_manifest, entry_refere
 use Rattle.engine_rows.specs.Image.{layers_accepted, layer_of, config_of}
 use Rattle.sig_calls.specs.declared.error.SigstoreError.{SigstoreError}
 use Rattle.sig_calls.specs.declared.error.SigstoreError.TheVariants as sigstore
-use Rattle.sig_calls.specs.Wording.{worded}
-use Rattle.sig_calls.specs.declared.wording.Called.TheVariants.{Pull}
+use Rattle.sig_calls.specs.ErrorContext.{with_error_context}
+use Rattle.sig_calls.specs.declared.error_context.Called.TheVariants.{Pull}
 use Rattle.sig_calls.specs.Clients.{Row}
 use Rattle.sig_calls.specs.Calls.{document_call, blob_call}
 use Rattle.cosign_rows.specs.declared.pulled.Pulled.{Pulled}
@@ -54,7 +54,7 @@ layers_row s source (x ∷ xs) layers = do
 unfoldable pub blobs_row : Context → Reference → List (List ℕ) → OciImageManifest → Row (Config × List ImageLayer)
 blobs_row s source accepted manifest = do
   content ← blob_call s source (described manifest.config)
-  Done (worded Pull (whole_text source) (layers_accepted accepted manifest.layers))
+  Done (with_error_context Pull (whole_text source) (layers_accepted accepted manifest.layers))
   layers ← layers_row s source manifest.layers []
   Done (Ok (config_of manifest content, layers))
 
@@ -72,9 +72,9 @@ entry_call s source a entry =
 -- the manifest of the entry that the settings select
 unfoldable pub entry_row : Context → Reference → RegistryAuth → List ImageIndexEntry → Row PulledManifest
 entry_row s source a entries = do
-  entry ← Done (worded Pull (whole_text source) (entry_found s.settings.platform_resolver entries))
+  entry ← Done (with_error_context Pull (whole_text source) (entry_found s.settings.platform_resolver entries))
   found ← entry_call s source a entry
-  manifest ← Done (worded Pull (whole_text source) (entry_in entry found.0))
+  manifest ← Done (with_error_context Pull (whole_text source) (entry_in entry found.0))
   Done (Ok (record { bytes = found.0; manifest = manifest; entry = Some entry }))
 
 -- the document's manifest, or that of an index's entry
@@ -86,7 +86,7 @@ manifest_row s source a first (ImageIndex index) = entry_row s source a index.ma
 -- the manifest of a document, and its blobs
 abbrev pub after_document : Context → Reference → Reference → RegistryAuth → List (List ℕ) → List ℕ → Row Pulled
 after_document s image source a accepted first = do
-  document ← Done (worded Pull (whole_text source) (document_in image first))
+  document ← Done (with_error_context Pull (whole_text source) (document_in image first))
   chosen ← manifest_row s source a first document
   blobs ← blobs_row s source accepted chosen.manifest
   Done (Ok (record { first = first; chosen = chosen; config = blobs.0; layers = blobs.1 }))

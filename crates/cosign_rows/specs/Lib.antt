@@ -2,7 +2,7 @@ pub mod Causes
 pub mod DigestStep
 pub mod Image
 pub mod Part
-pub mod Points
+pub mod Snapshots
 pub mod References
 pub mod Refusal
 pub mod Search

@@ -1,6 +1,6 @@
 -- Why a pull was refused.
 use Rattle.std.specs.Prelude.{◌≡◌, Bool, true, false, Option, Some, None, Result, Ok, Err}
-use Rattle.json_values.specs.Counts.{Rose}
+use Rattle.json_values.specs.Counts.{Increased}
 use Rattle.json_values.specs.Refusals as Refusals
 use Rattle.oci_transport.specs.Link.{Link}
 use Rattle.engine_terms.specs.declared.error.OciDistributionError.{OciDistributionError}
@@ -24,8 +24,8 @@ refused_as (sigstore.RegistryPullManifestError image error) = refusal.RegistryPu
 refused_as sigstore.WantOfMemory = refusal.WantOfMemory
 
 -- the result is `said`, or memory ran out
-abbrev pub Says : {A : Type 0} → Result A PullRefusal → Result A PullRefusal → Type 0
-Says answer said = Refusals.Says is_memory answer said
+abbrev pub Matches : {A : Type 0} → Result A PullRefusal → Result A PullRefusal → Type 0
+Matches answer said = Refusals.Matches is_memory answer said
 
 -- the registry client's error that a refusal holds
 abbrev pub client_refusal : PullRefusal → Option OciDistributionError
@@ -40,7 +40,7 @@ IsRefusedBy e (Err refused) = client_refusal refused ≡ Some e
 
 -- a fault of the transport is returned only if its fault count increased
 abbrev pub FaultCounted : {A : Type 0} → Link → Link → Result A PullRefusal → Type 0
-FaultCounted old new r = IsRefusedBy TransportFault r → Rose old.faults new.faults
+FaultCounted old new r = IsRefusedBy TransportFault r → Increased old.faults new.faults
 
 -- no sink takes part, so no sink can fail
 abbrev pub NoSinkFault : {A : Type 0} → Result A PullRefusal → Type 0

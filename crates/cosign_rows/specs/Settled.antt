@@ -3,13 +3,13 @@ use Rattle.std.specs.Prelude.{◌≡◌, true, ℕ, List, Option, Some, None, Ok
 use Rattle.oci_names.specs.declared.reference.Reference.{Reference}
 use Rattle.oci_names.specs.Reference.{repository_of, resolved_registry, reads_back}
 use Rattle.oci_auth.specs.declared.auth.RegistryAuth.{RegistryAuth}
-use Rattle.oci_auth.specs.declared.memory.Memory.{Memory}
+use Rattle.oci_auth.specs.declared.auth_state.AuthState.{AuthState}
 use Rattle.oci_link.specs.Table.{answer}
 use Rattle.oci_link.specs.declared.shelf.Shelf.{Shelf}
 use Rattle.engine_terms.specs.Contexts.{within}
 use Rattle.engine_terms.specs.declared.settings.Settings.{Settings}
-use Rattle.shelf_laws.specs.Comes.{ComesTo}
-use Rattle.shelf_laws.specs.Home.{IsAt, Settled}
+use Rattle.shelf_laws.specs.EvaluatesWith.{EvaluatesTo}
+use Rattle.shelf_laws.specs.IsHosted.{IsAt, Settled}
 use Rattle.sig_settings.specs.Keys.{manifest_key, pull_key, referrers_key}
 use Rattle.sig_answers.specs.declared.answer.Answer.{Answer}
 use Rattle.sig_answers.specs.declared.answer.Answer.TheVariants.{Digest, Manifest, Image, Referrers}
@@ -22,9 +22,9 @@ use Rattle.sig_calls.specs.Clients.{Kept, Plain}
 pub record IsGiven {A : Type 0} (registry : List ℕ) (a : RegistryAuth) (shelf : Shelf) (call : ℕ → Plain A) (given : A)
     : Type 0 where
   pub moment : ℕ
-  pub kept : Memory
+  pub kept : AuthState
   pub settled : Settled registry shelf.repository a kept
-  pub comes : ComesTo (answer shelf) (call moment) kept (Ok given)
+  pub comes : EvaluatesTo (answer shelf) (call moment) kept (Ok given)
 
 -- the image is one of the shelf's at this registry, and its reference round-trips
 pub record IsOf (registry : List ℕ) (shelf : Shelf) (image : Reference) : Type 0 where
@@ -47,16 +47,16 @@ IsAnswer s registry a shelf key (Referrers index) =
     → IsGiven registry a shelf (λ moment. referrers_made (within s moment) image a kind) index
 
 -- what is cached is what the shelf returns; a client without a cache satisfies it
-abbrev pub IsRight : Settings → List ℕ → RegistryAuth → Shelf → Entry → Type 0
-IsRight s registry a shelf e = IsAnswer s registry a shelf e.key e.answer
+abbrev pub IsFromShelf : Settings → List ℕ → RegistryAuth → Shelf → Entry → Type 0
+IsFromShelf s registry a shelf e = IsAnswer s registry a shelf e.key e.answer
 
-abbrev pub AreRight : Settings → List ℕ → RegistryAuth → Shelf → Option Answers → Type 0
-AreRight s registry a shelf None = Unit {0}
-AreRight s registry a shelf (Some kept) = All (IsRight s registry a shelf) kept.entries
+abbrev pub AreFromShelf : Settings → List ℕ → RegistryAuth → Shelf → Option Answers → Type 0
+AreFromShelf s registry a shelf None = Unit {0}
+AreFromShelf s registry a shelf (Some kept) = All (IsFromShelf s registry a shelf) kept.entries
 
 -- A client that keeps no other credentials for the image's registry than these, no other token for its repository than
 -- theirs, and for calls to this shelf with these credentials caches no responses but those that the shelf returns. A
 -- new client keeps nothing.
 pub record IsSettled (s : Settings) (image : Reference) (a : RegistryAuth) (shelf : Shelf) (k : Kept) : Type 0 where
   pub memory : Settled (resolved_registry image) (repository_of image) a k.0
-  pub answers : AreRight s (resolved_registry image) a shelf k.1
+  pub answers : AreFromShelf s (resolved_registry image) a shelf k.1

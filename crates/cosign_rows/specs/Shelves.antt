@@ -21,9 +21,9 @@ use Rattle.oci_link.specs.Table.{digest_named}
 use Rattle.oci_link.specs.declared.shelf.Shelf.{Shelf}
 use Rattle.engine_requests.specs.Addresses.{manifest_name}
 use Rattle.engine_terms.specs.declared.settings.Settings.{Settings}
-use Rattle.shelf_laws.specs.Home.{IsWrittenPlainly, CanBeShown}
-use Rattle.shelf_laws.specs.Shelves.{IsShort, HasManifest, HasBlobs, ImageOn, Lists, layers_on}
-use Rattle.cosign_layers.specs.Standing.{Meaning, StandsFor}
+use Rattle.shelf_laws.specs.IsHosted.{IsWrittenPlainly, CanBeShown}
+use Rattle.shelf_laws.specs.Shelves.{FitsLimit, HasManifest, HasBlobs, ImageOn, Lists, layers_on}
+use Rattle.cosign_layers.specs.Satisfying.{PolicyContext, StandsFor}
 use Rattle.cosign_layers.specs.Trust.{Trust}
 use Rattle.cosign_layers.specs.declared.layer.SignatureLayer.{SignatureLayer}
 use Rattle.cosign_layers.specs.declared.rejection.LayerRejection.{LayerRejection}
@@ -47,24 +47,25 @@ read_on trust d shelf manifest x =
     read_layer trust d x (named_layer x.digest (layers_on shelf manifest.layers))
 
 -- for one of the manifest's descriptors, a layer is read that stands for the digest
-pub record ReadsStanding {V : Type 0} {H : V → Type 0} (meaning : Meaning V H) (d : List ℕ) (shelf : Shelf)
+pub record HasSatisfyingLayer {V : Type 0} {H : V → Type 0} (policy_context : PolicyContext V H) (d : List ℕ)
+    (shelf : Shelf)
     (manifest : OciImageManifest) : Type 0 where
   pub descriptor : OciDescriptor
   pub listed : Contains manifest.layers descriptor
   pub layer : SignatureLayer
-  pub reads : read_on meaning.trust d shelf manifest descriptor ≡ Ok layer
-  pub stands_for : StandsFor meaning d layer
+  pub reads : read_on policy_context.trust d shelf manifest descriptor ≡ Ok layer
+  pub stands_for : StandsFor policy_context d layer
 
 -- The tag of the digest's signatures names a manifest of payloads. The shelf has all of them, and one of them stands
 -- for the digest.
-pub record SignedByTag {V : Type 0} {H : V → Type 0} (meaning : Meaning V H) (d : List ℕ) (shelf : Shelf)
+pub record SignedByTag {V : Type 0} {H : V → Type 0} (policy_context : PolicyContext V H) (d : List ℕ) (shelf : Shelf)
     : Type 0 where
   pub signatures : List ℕ
   pub tagged : map.get shelf.tags (signature_tag d) ≡ Some signatures
   pub manifest : OciImageManifest
   pub there : HasManifest shelf signatures manifest
   pub payloads : HasBlobs shelf (payload_type ∷ []) manifest
-  pub standing : ReadsStanding meaning d shelf manifest
+  pub standing : HasSatisfyingLayer policy_context d shelf manifest
 
 -- these settings and credentials request the image from the shelf, and its redirects all end
 pub record IsAsked (s : Settings) (image : Reference) (a : RegistryAuth) (shelf : Shelf) : Type 0 where
@@ -77,7 +78,7 @@ pub record IsAsked (s : Settings) (image : Reference) (a : RegistryAuth) (shelf 
 
 -- One of the digest's referrers has a reference that round-trips, and the shelf has its image of bundles; from one of
 -- them a layer is read that stands for the digest.
-pub record SignedByReferrer {V : Type 0} {H : V → Type 0} (meaning : Meaning V H) (s : Settings)
+pub record SignedByReferrer {V : Type 0} {H : V → Type 0} (policy_context : PolicyContext V H) (s : Settings)
     (image : Reference) (d : List ℕ) (shelf : Shelf) : Type 0 where
   pub index : OciImageIndex
   pub lists : Lists shelf d index
@@ -88,8 +89,8 @@ pub record SignedByReferrer {V : Type 0} {H : V → Type 0} (meaning : Meaning V
   pub bundle : ImageLayer
   pub listed : Contains (layers_on shelf bundles.manifest.layers) bundle
   pub layer : SignatureLayer
-  pub reads : read_bundle meaning.trust d (digest_text Sha256 bundle.content) bundle ≡ Ok layer
-  pub stands_for : StandsFor meaning d layer
+  pub reads : read_bundle policy_context.trust d (digest_text Sha256 bundle.content) bundle ≡ Ok layer
+  pub stands_for : StandsFor policy_context d layer
 
 -- the image is requested from the shelf, which has it, by a digest of any algorithm, and nothing is too long
 pub record ImageShelf (s : Settings) (image : Reference) (a : RegistryAuth) (accepted : List (List ℕ))
@@ -98,29 +99,31 @@ pub record ImageShelf (s : Settings) (image : Reference) (a : RegistryAuth) (acc
   pub digest : List ℕ
   pub named : digest_on shelf image ≡ Some digest
   pub image_on : ImageOn s shelf digest accepted
-  pub short : IsShort s shelf
+  pub short : FitsLimit s shelf
 
 -- The shelf has the image, and a layer stands for its digest: under the tag of its signatures, whose reference
 -- round-trips, or of one of its referrers.
-pub record WideShelf {V : Type 0} {H : V → Type 0} (meaning : Meaning V H) (s : Settings) (image : Reference)
+pub record WideShelf {V : Type 0} {H : V → Type 0} (policy_context : PolicyContext V H) (s : Settings)
+    (image : Reference)
     (a : RegistryAuth) (accepted : List (List ℕ)) (shelf : Shelf) : Type 0 where
   pub has : ImageShelf s image a accepted shelf
-  pub signed : ((reads_back (tag_reference image has.digest) ≡ true) × SignedByTag meaning has.digest shelf)
-      ⊎ SignedByReferrer meaning s image has.digest shelf
+  pub signed : ((reads_back (tag_reference image has.digest) ≡ true) × SignedByTag policy_context has.digest shelf)
+      ⊎ SignedByReferrer policy_context s image has.digest shelf
 
 -- The image is requested from the shelf, which has it, by a SHA-256 digest. A layer under its tag stands for it that
 -- has no log entry and no certificate. Nothing is too long.
-pub record ValidShelf {V : Type 0} {H : V → Type 0} (meaning : Meaning V H) (s : Settings) (image : Reference)
+pub record ValidShelf {V : Type 0} {H : V → Type 0} (policy_context : PolicyContext V H) (s : Settings)
+    (image : Reference)
     (a : RegistryAuth) (accepted : List (List ℕ)) (shelf : Shelf) : Type 0 where
   pub asked : IsAsked s image a shelf
   pub digest : List ℕ
   pub named : digest_on shelf image ≡ Some digest
   pub sha256 : IsSha256 digest
   pub image_on : ImageOn s shelf digest accepted
-  pub signed : SignedByTag meaning digest shelf
+  pub signed : SignedByTag policy_context digest shelf
   pub no_entry : signed.standing.layer.bundle ≡ None
   pub no_certificate : signed.standing.layer.certificate_signature ≡ None
-  pub short : IsShort s shelf
+  pub short : FitsLimit s shelf
 
 -- the transport responds from the shelf and exposes its requests, as a `ShelfTransport` does
 pub record AnswersFrom (shelf : Shelf) (link : Link) : Type 0 where

@@ -10,7 +10,7 @@ use Rattle.sig_settings.specs.Keys.{manifest_key}
 use Rattle.sig_calls.specs.Caching.{known}
 use Rattle.sig_calls.specs.Calls.{digests}
 use Rattle.sig_calls.specs.Clients.{Kept}
-use Rattle.cosign_layers.specs.Standing.{Meaning}
+use Rattle.cosign_layers.specs.Satisfying.{PolicyContext}
 use Rattle.cosign_chain.specs.Chain.{Chain}
 use Rattle.cosign_chain.specs.declared.image.VerifiedImage.{VerifiedImage}
 
@@ -39,8 +39,8 @@ pub record Backed (kept : Kept) (s : Context) (image : Reference) (a : RegistryA
   pub layers : EachBody c v.layers
 
 -- the chain holds, and comes from this conversation
-pub record Sound {V : Type 0} {H : V → Type 0} (kept : Kept) (s : Context) (meaning : Meaning V H)
+pub record Sound {V : Type 0} {H : V → Type 0} (kept : Kept) (s : Context) (policy_context : PolicyContext V H)
     (image : Reference) (a : RegistryAuth) (accepted : List (List ℕ)) (c : List Exchange) (v : VerifiedImage)
     : Type 0 where
-  pub chain : Chain meaning image accepted s.settings.platform_resolver v
+  pub chain : Chain policy_context image accepted s.settings.platform_resolver v
   pub backed : Backed kept s image a c v

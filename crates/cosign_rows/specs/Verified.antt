@@ -8,7 +8,7 @@ use Rattle.engine_terms.specs.Contexts.{Context}
 use Rattle.sig_calls.specs.declared.error.SigstoreError.{SigstoreError}
 use Rattle.sig_calls.specs.Clients.{Kept, Row}
 use Rattle.cosign_layers.specs.Constraint.{has_no_item}
-use Rattle.cosign_layers.specs.Standing.{Meaning, stands}
+use Rattle.cosign_layers.specs.Satisfying.{PolicyContext, satisfies_policy}
 use Rattle.cosign_layers.specs.declared.layer.SignatureLayer.{SignatureLayer}
 use Rattle.cosign_layers.specs.declared.policy.PullPolicy.{PullPolicy}
 use Rattle.cosign_chain.specs.declared.image.VerifiedImage.{VerifiedImage}
@@ -20,7 +20,7 @@ use Rattle.cosign_rows.specs.declared.found.TrustedLayers.{TrustedLayers}
 use Rattle.cosign_rows.specs.declared.pulled.Pulled.{Pulled}
 use Rattle.cosign_rows.specs.declared.refusal.PullRefusal.{PullRefusal}
 use Rattle.cosign_rows.specs.declared.refusal.PullRefusal.TheVariants as refusal
-use Rattle.cosign_rows.specs.declared.standing.Standing.{Standing}
+use Rattle.cosign_rows.specs.declared.signed_digest.SignedDigest.{SignedDigest}
 
 abbrev pub Whole : Type 0 → Type 0
 Whole A = Proto Kept (Result A PullRefusal)
@@ -52,24 +52,25 @@ unfoldable pub part_of : {A : Type 0} → Row A → Whole A
 part_of p = bind p (λ r. Done (as_whole r))
 
 -- whether a layer satisfies the policy
-abbrev pub stands_by : {V : Type 0} {H : V → Type 0} → Meaning V H → SignatureLayer → Bool
-stands_by meaning = stands meaning.trust.valid meaning.policy meaning.own
+abbrev pub stands_by : {V : Type 0} {H : V → Type 0} → PolicyContext V H → SignatureLayer → Bool
+stands_by policy_context = satisfies_policy policy_context.trust.valid policy_context.policy policy_context.own
 
 -- the digest with the first layer that stands for it
-abbrev pub standing_by : TrustedLayers → Option SignatureLayer → Result Standing PullRefusal
-standing_by found None = Err (refusal.Unsatisfied found.digest found.collected found.skipped)
-standing_by found (Some signature) = Ok (record { digest = found.digest; signature = signature })
+abbrev pub signed_digest : TrustedLayers → Option SignatureLayer → Result SignedDigest PullRefusal
+signed_digest found None = Err (refusal.Unsatisfied found.digest found.collected found.skipped)
+signed_digest found (Some signature) = Ok (record { digest = found.digest; signature = signature })
 
 -- the digest with the first found layer that satisfies the policy
-abbrev pub standing : {V : Type 0} {H : V → Type 0} → Meaning V H → TrustedLayers → Result Standing PullRefusal
-standing meaning found = standing_by found (find (stands_by meaning) found.collected)
+abbrev pub standing : {V : Type 0} {H : V → Type 0} → PolicyContext V H → TrustedLayers
+    → Result SignedDigest PullRefusal
+standing policy_context found = signed_digest found (find (stands_by policy_context) found.collected)
 
 -- the digest of the manifest, and that of the index that led to it
 abbrev pub manifest_digests : List ℕ → Option (List ℕ) → List ℕ × Option (List ℕ)
 manifest_digests digest None = (digest, None)
 manifest_digests digest (Some entry) = (entry, Some digest)
 
-abbrev pub verified_image : Standing → Pulled → VerifiedImage
+abbrev pub verified_image : SignedDigest → Pulled → VerifiedImage
 verified_image standing pulled = record {
   digest = standing.digest;
   first = pulled.first;
@@ -83,17 +84,17 @@ verified_image standing pulled = record {
 }
 
 -- the image from what was pulled, or the error
-abbrev pub stood_image : Standing → Result Pulled SigstoreError → Result VerifiedImage PullRefusal
-stood_image standing (Ok pulled) = Ok (verified_image standing pulled)
-stood_image standing (Err e) = Err (refused_as e)
+abbrev pub signed_image : SignedDigest → Result Pulled SigstoreError → Result VerifiedImage PullRefusal
+signed_image standing (Ok pulled) = Ok (verified_image standing pulled)
+signed_image standing (Err e) = Err (refused_as e)
 
 -- the whole pull
-unfoldable pub verified : {V : Type 0} {H : V → Type 0} → Meaning V H → Context → Reference → RegistryAuth
+unfoldable pub verified : {V : Type 0} {H : V → Type 0} → PolicyContext V H → Context → Reference → RegistryAuth
     → List (List ℕ) → Whole VerifiedImage
-verified meaning s image a accepted = do
-  Done (constrained (is_unconstrained meaning.policy))
+verified policy_context s image a accepted = do
+  Done (constrained (is_unconstrained policy_context.policy))
   Done (readable image)
-  found ← part_of (searched meaning.trust s image a)
-  stood ← Done (standing meaning found)
+  found ← part_of (searched policy_context.trust s image a)
+  stood ← Done (standing policy_context found)
   pulled ← part_of (image_row s image (digest_reference image stood.digest) a accepted)
   Done (Ok (verified_image stood pulled))

@@ -6,12 +6,12 @@ mod found;
 mod pulled;
 mod references;
 mod refusal;
-mod standing;
+mod signed_digest;
 mod terms;
 
 pub use found::{Part, SkipCause, Skipped, SourceKind, TrustedLayers};
 pub use pulled::{Pulled, PulledManifest};
 pub use references::{digest_reference, oci_tag_reference, reading_back, tag_reference};
 pub use refusal::PullRefusal;
-pub use standing::Standing;
+pub use signed_digest::SignedDigest;
 pub use terms::{Asked, Referred, Terms};

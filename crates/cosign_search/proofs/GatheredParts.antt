@@ -5,7 +5,7 @@ use Rattle.oci_protocol.specs.Proto.{Proto, Done, Ask, Recall, Keep, Consult, bi
 use Rattle.engine_terms.specs.declared.settings.Settings.{Settings}
 use Rattle.sig_calls.specs.declared.error.SigstoreError.{SigstoreError}
 use Rattle.sig_calls.specs.Error.{is_memory}
-use Rattle.sig_calls.specs.Clients.{Client, Row, Fulfils}
+use Rattle.sig_calls.specs.Clients.{Client, Row, ClientMeets}
 use Rattle.cosign_rows.specs.declared.found.Part.{Part}
 use Rattle.cosign_rows.specs.Part.{appended}
 use Rattle.cosign_rows.proofs.Descriptors.{joined_part}
@@ -30,8 +30,8 @@ unfolding bind
 gathered_done part p f = bind_joined p (λ r. Done (f r)) (λ r. Done (put_behind part r))
 
 pub made_done : {A : Type 0} {s : Settings} (part : Part) (p : Row A) (f : Result A SigstoreError → Result Part SigstoreError) {c d : Client} {old new : Link} {r : Result Part SigstoreError}
-    → Fulfils is_memory s (bind p (λ r. Done (put_behind part (f r)))) c d old new r → Fulfils is_memory s (gathered part (bind p (λ r. Done (f r)))) c d old new r
-made_done {s = s} part p f {c = c} {d = d} {old = old} {new = new} {r = r} made = subst (λ q. Fulfils is_memory s q c d old new r) (sym (gathered_done part p f)) made
+    → ClientMeets is_memory s (bind p (λ r. Done (put_behind part (f r)))) c d old new r → ClientMeets is_memory s (gathered part (bind p (λ r. Done (f r)))) c d old new r
+made_done {s = s} part p f {c = c} {d = d} {old = old} {new = new} {r = r} made = subst (λ q. ClientMeets is_memory s q c d old new r) (sym (gathered_done part p f)) made
 
 then_each : {B : Type 0} (part : Part) (f : Part → Row B) (r : Result Part SigstoreError) → bind (Done (put_behind part r)) (unless_refused f) ≡ unless_refused (λ more. f (appended part more)) r
 unfolding bind
@@ -43,8 +43,8 @@ gathered_then : {B : Type 0} (part : Part) (p : Row Part) (f : Part → Row B) �
 gathered_then part p f = bind_joined p (λ r. Done (put_behind part r)) (unless_refused f) ∙ bind_same p _ _ (then_each part f)
 
 pub made_then : {B : Type 0} {s : Settings} (part : Part) (p : Row Part) (f : Part → Row B) {c d : Client} {old new : Link} {r : Result B SigstoreError}
-    → Fulfils is_memory s (gathered part p >>= f) c d old new r → Fulfils is_memory s (p >>= (λ more. f (appended part more))) c d old new r
-made_then {s = s} part p f {c = c} {d = d} {old = old} {new = new} {r = r} made = subst (λ q. Fulfils is_memory s q c d old new r) (gathered_then part p f) made
+    → ClientMeets is_memory s (gathered part p >>= f) c d old new r → ClientMeets is_memory s (p >>= (λ more. f (appended part more))) c d old new r
+made_then {s = s} part p f {c = c} {d = d} {old = old} {new = new} {r = r} made = subst (λ q. ClientMeets is_memory s q c d old new r) (gathered_then part p f) made
 
 -- one part, followed by the result of another row
 abbrev both_then : Part → Result Part SigstoreError → Row Part

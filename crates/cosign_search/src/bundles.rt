@@ -3,7 +3,7 @@ ghost use Rattle.std.specs.Prelude.{◌≡◌, IfOk};
 ghost use Rattle.cosign_layers.specs.Checks.{input, layer_read};
 ghost use Rattle.cosign_layers.specs.Trust.{trust_of};
 ghost use Rattle.cosign_layers.specs.declared.layer.LayerKind.TheVariants as kinds;
-ghost use Rattle.cosign_layers.specs.Rejection.{Says as SaysLayer};
+ghost use Rattle.cosign_layers.specs.Rejection.{Matches as MatchesLayer};
 ghost use Rattle.cosign_rows.specs.Part.{appended, bundle_part, bundles_part, read_bundle};
 
 use cosign_layers::{
@@ -23,7 +23,7 @@ fn read_annotated<V: SignatureVerifier, O: Offline>(
     layer: &ImageLayer,
     annotations: &Annotations,
 ) -> Result<SignatureLayer, LayerRejection>
-    ensures { SaysLayer result (layer_read (trust_of V.valid O.vouched trusted.now) digest.now
+    ensures { MatchesLayer result (layer_read (trust_of V.valid O.vouched trusted.now) digest.now
         (input kinds.Bundle layer.now.content text.now annotations.now)) }
 {
     read_bundle_layer(
@@ -46,7 +46,7 @@ fn read_bundle<V: SignatureVerifier, O: Offline>(
     text: &str,
     layer: &ImageLayer,
 ) -> Result<SignatureLayer, LayerRejection>
-    ensures { SaysLayer result (read_bundle (trust_of V.valid O.vouched trusted.now) digest.now text.now layer.now) }
+    ensures { MatchesLayer result (read_bundle (trust_of V.valid O.vouched trusted.now) digest.now text.now layer.now) }
 {
     match &layer.annotations {
         Some(annotations) => read_annotated(alloc, trusted, digest, text, layer, annotations),

@@ -6,7 +6,7 @@ ghost use Rattle.sig_calls.specs.Named.{names_each};
 ghost use Rattle.cosign_layers.specs.Checks.{input, layer_read};
 ghost use Rattle.cosign_layers.specs.Trust.{trust_of};
 ghost use Rattle.cosign_layers.specs.declared.layer.LayerKind.TheVariants as kinds;
-ghost use Rattle.cosign_layers.specs.Rejection.{Says as SaysLayer};
+ghost use Rattle.cosign_layers.specs.Rejection.{Matches as MatchesLayer};
 ghost use Rattle.cosign_rows.specs.Part.{appended, descriptors_part, layer_part, named_layer, read_layer, skipping};
 ghost use Rattle.cosign_search.specs.Part.{is_among, is_text, layer_digests, text_by};
 ghost use Rattle.cosign_search.specs.Part.{Begins, BeginsOtherwise, Serves, Tell};
@@ -119,8 +119,8 @@ fn is_used(name: &str, descriptors: &[OciDescriptor]) -> bool
 }
 
 fn begins(name: &str, digest: &str) -> bool
-    ensures so { result ≡ true → Begins name.now digest.now }
-    ensures otherwise { result ≡ false → BeginsOtherwise name.now digest.now }
+    ensures if_true { result ≡ true → Begins name.now digest.now }
+    ensures if_false { result ≡ false → BeginsOtherwise name.now digest.now }
 {
     digest.starts_with(name)
 }
@@ -292,7 +292,7 @@ fn read_layer<V: SignatureVerifier, O: Offline>(
     descriptor: &OciDescriptor,
     named: Option<&ImageLayer>,
 ) -> Result<SignatureLayer, LayerRejection>
-    ensures { SaysLayer result (read_layer (trust_of V.valid O.vouched trusted.now) digest.now
+    ensures { MatchesLayer result (read_layer (trust_of V.valid O.vouched trusted.now) digest.now
         descriptor.now (option_copied named.entry)) }
 {
     let Some(layer) = named else {
@@ -315,7 +315,7 @@ fn read_pulled<V: SignatureVerifier, O: Offline>(
     layer: &ImageLayer,
     annotations: &Annotations,
 ) -> Result<SignatureLayer, LayerRejection>
-    ensures { SaysLayer result (layer_read (trust_of V.valid O.vouched trusted.now) digest.now
+    ensures { MatchesLayer result (layer_read (trust_of V.valid O.vouched trusted.now) digest.now
         (input kinds.Payload layer.now.content descriptor.now.digest annotations.now)) }
 {
     read_payload_layer(

@@ -5,8 +5,8 @@ ghost use Rattle.engine_terms.specs.Contexts.{within};
 ghost use Rattle.engine_terms.specs.declared.settings.Settings.{Settings};
 ghost use Rattle.cosign_layers.specs.Trust.{trust_of};
 ghost use Rattle.sig_calls.specs.Calls.{image_call};
-ghost use Rattle.sig_calls.specs.Clients.{Fulfils};
-ghost use Rattle.sig_calls.specs.Error.{is_memory, Says};
+ghost use Rattle.sig_calls.specs.Clients.{ClientMeets};
+ghost use Rattle.sig_calls.specs.Error.{is_memory, Matches};
 ghost use Rattle.cosign_rows.specs.Part.{appended, bundles_part, skipping};
 ghost use Rattle.cosign_rows.specs.Search.{bundle_type, or_skipped, referrer_part, referrer_by, referrer_row};
 ghost use Rattle.cosign_rows.specs.Search.{referrers_row, referrers_source};
@@ -38,7 +38,7 @@ fn pull_bundles<C: ClientCapabilities, T: Transport>(
     transport: &mut T,
     referrer: &Asked<'_>,
 ) -> Result<ImageData, SigstoreError>
-    ensures { (s : Settings) → Fulfils is_memory s
+    ensures { (s : Settings) → ClientMeets is_memory s
         (image_call (within s referrer.now.moment) referrer.now.image.now referrer.now.auth.now (bundle_type ∷ []))
         (C.state client.old) (C.state client.new) (T.state transport.old) (T.state transport.new) result }
 {
@@ -83,7 +83,7 @@ fn skip_referrer(
     error: SigstoreError,
     part: Part,
 ) -> Result<Part, SigstoreError>
-    ensures { Says result (put_behind part (or_skipped (Referrer digest.now) (Err error))) }
+    ensures { Matches result (put_behind part (or_skipped (Referrer digest.now) (Err error))) }
 {
     if error.is_memory() {
         return Err(error);
@@ -103,7 +103,7 @@ fn add_referrer<V: SignatureVerifier, O: Offline>(
     image: Result<ImageData, SigstoreError>,
     part: Part,
 ) -> Result<Part, SigstoreError>
-    ensures { Says result (put_behind part (or_skipped (Referrer digest.now)
+    ensures { Matches result (put_behind part (or_skipped (Referrer digest.now)
         (referrer_part (trust_of V.valid O.vouched trusted.now) source.now image))) }
 {
     match image {
@@ -125,7 +125,7 @@ fn referrer_by<C: ClientCapabilities, T: Transport, V: SignatureVerifier, O: Off
     digest: &str,
     part: Part,
 ) -> Result<Part, SigstoreError>
-    ensures { (s : Settings) → Fulfils is_memory s
+    ensures { (s : Settings) → ClientMeets is_memory s
         (gathered part (referrer_by (trust_of V.valid O.vouched referred.now.trusted.now) referred.now.digest.now
         (within s referrer.now.moment) referrer.now.image.now referrer.now.auth.now digest.now
         (reads_back referrer.now.image.now)))
@@ -159,7 +159,7 @@ fn referrer<C: ClientCapabilities, T: Transport, V: SignatureVerifier, O: Offlin
     digest: &str,
     part: Part,
 ) -> Result<Part, SigstoreError>
-    ensures { (s : Settings) → Fulfils is_memory s
+    ensures { (s : Settings) → ClientMeets is_memory s
         (gathered part (referrer_row (trust_of V.valid O.vouched referred.now.trusted.now) referred.now.digest.now
         (within s referred.now.moment) referred.now.image.now referred.now.auth.now digest.now))
         (C.state client.old) (C.state client.new) (T.state transport.old) (T.state transport.new) result }
@@ -182,7 +182,7 @@ fn each_referrer<C: ClientCapabilities, T: Transport, V: SignatureVerifier, O: O
     entries: &[ImageIndexEntry],
     mut part: Part,
 ) -> Result<Part, SigstoreError>
-    ensures { (s : Settings) → Fulfils is_memory s
+    ensures { (s : Settings) → ClientMeets is_memory s
         (gathered part (referrers_row (trust_of V.valid O.vouched referred.now.trusted.now) referred.now.digest.now
         (within s referred.now.moment) referred.now.image.now referred.now.auth.now entries.now))
         (C.state client.old) (C.state client.new) (T.state transport.old) (T.state transport.new) result }
@@ -202,7 +202,7 @@ fn each_referrer<C: ClientCapabilities, T: Transport, V: SignatureVerifier, O: O
 
 // Records a refused listing as skipped.
 fn skip_listing(part: Part, refused: SigstoreError) -> Result<Part, SigstoreError>
-    ensures { Says result (put_behind part (or_skipped (Source Referrers) (Err refused))) }
+    ensures { Matches result (put_behind part (or_skipped (Source Referrers) (Err refused))) }
 {
     if refused.is_memory() {
         return Err(refused);
@@ -225,7 +225,7 @@ pub(crate) fn referrers_source<
     referred: &Referred<'_, V, O>,
     part: Part,
 ) -> Result<Part, SigstoreError>
-    ensures { (s : Settings) → Fulfils is_memory s
+    ensures { (s : Settings) → ClientMeets is_memory s
         (gathered part (referrers_source (trust_of V.valid O.vouched referred.now.trusted.now) referred.now.digest.now
         (within s referred.now.moment) referred.now.image.now referred.now.auth.now))
         (C.state client.old) (C.state client.new) (T.state transport.old) (T.state transport.new) result }

@@ -4,8 +4,8 @@ ghost use Rattle.oci_names.specs.Reference.{reads_back};
 ghost use Rattle.engine_terms.specs.Contexts.{within};
 ghost use Rattle.engine_terms.specs.declared.settings.Settings.{Settings};
 ghost use Rattle.cosign_layers.specs.Trust.{trust_of};
-ghost use Rattle.sig_calls.specs.Error.{is_memory, Says};
-ghost use Rattle.sig_calls.specs.Clients.{Fulfils};
+ghost use Rattle.sig_calls.specs.Error.{is_memory, Matches};
+ghost use Rattle.sig_calls.specs.Clients.{ClientMeets};
 ghost use Rattle.sig_calls.specs.Named.{is_named, names_each};
 ghost use Rattle.cosign_rows.specs.Search.{document_part, pulled_part, payload_type, or_skipped};
 ghost use Rattle.cosign_rows.specs.Search.{searched, tag_by, tag_layers, tag_source};
@@ -77,7 +77,7 @@ fn pulled_part<V: SignatureVerifier, O: Offline>(
     image: Result<ImageData, SigstoreError>,
 ) -> Result<Part, SigstoreError>
     requires { IfOk image (λ image. IsTrue (is_named image)) }
-    ensures { Says result (pulled_part (trust_of V.valid O.vouched trusted.now) digest.now document.now image) }
+    ensures { Matches result (pulled_part (trust_of V.valid O.vouched trusted.now) digest.now document.now image) }
 {
     let image = image?;
     let part = document_part(alloc, trusted, digest, document, &image)?;
@@ -102,7 +102,7 @@ fn tag_layers<C: ClientCapabilities, T: Transport, V: SignatureVerifier, O: Offl
     trusted: &Trusted<'_, V, O>,
     digest: &str,
 ) -> Result<Part, SigstoreError>
-    ensures { (s : Settings) → Fulfils is_memory s (tag_layers (trust_of V.valid O.vouched trusted.now)
+    ensures { (s : Settings) → ClientMeets is_memory s (tag_layers (trust_of V.valid O.vouched trusted.now)
         digest.now (within s tag.now.moment) tag.now.image.now tag.now.auth.now)
         (C.state client.old) (C.state client.new) (T.state transport.old) (T.state transport.new) result }
 {
@@ -125,7 +125,7 @@ fn or_skipped(
     kind: SourceKind,
     part: Result<Part, SigstoreError>,
 ) -> Result<Part, SigstoreError>
-    ensures { Says result (or_skipped (Source kind) part) }
+    ensures { Matches result (or_skipped (Source kind) part) }
 {
     match part {
         Ok(part) => Ok(part),
@@ -149,7 +149,7 @@ fn tag_by<C: ClientCapabilities, T: Transport, V: SignatureVerifier, O: Offline>
     trusted: &Trusted<'_, V, O>,
     digest: &str,
 ) -> Result<Part, SigstoreError>
-    ensures { (s : Settings) → Fulfils is_memory s (tag_by (trust_of V.valid O.vouched trusted.now)
+    ensures { (s : Settings) → ClientMeets is_memory s (tag_by (trust_of V.valid O.vouched trusted.now)
         digest.now (within s tag.now.moment) tag.now.image.now tag.now.auth.now (reads_back tag.now.image.now))
         (C.state client.old) (C.state client.new) (T.state transport.old) (T.state transport.new) result }
 {
@@ -173,7 +173,7 @@ fn tag_source<C: ClientCapabilities, T: Transport, V: SignatureVerifier, O: Offl
     trusted: &Trusted<'_, V, O>,
     digest: &str,
 ) -> Result<Part, SigstoreError>
-    ensures { (s : Settings) → Fulfils is_memory s (tag_source (trust_of V.valid O.vouched trusted.now)
+    ensures { (s : Settings) → ClientMeets is_memory s (tag_source (trust_of V.valid O.vouched trusted.now)
         (within s asked.now.moment) asked.now.image.now asked.now.auth.now digest.now)
         (C.state client.old) (C.state client.new) (T.state transport.old) (T.state transport.new) result }
 {
@@ -194,7 +194,7 @@ pub fn search<C: ClientCapabilities, T: Transport, V: SignatureVerifier, O: Offl
     asked: &Asked<'_>,
     trusted: &Trusted<'_, V, O>,
 ) -> Result<TrustedLayers, SigstoreError>
-    ensures { (s : Settings) → Fulfils is_memory s (searched (trust_of V.valid O.vouched trusted.now)
+    ensures { (s : Settings) → ClientMeets is_memory s (searched (trust_of V.valid O.vouched trusted.now)
         (within s asked.now.moment) asked.now.image.now asked.now.auth.now)
         (C.state client.old) (C.state client.new) (T.state transport.old) (T.state transport.new) result }
 {

@@ -3,22 +3,23 @@ ghost use Rattle.std.specs.Prelude.{◌≡◌, true, false, Err, IfOk, IsTrue, f
 ghost use Rattle.engine_terms.specs.Contexts.{within};
 ghost use Rattle.engine_terms.specs.declared.settings.Settings.{Settings};
 ghost use Rattle.oci_names.specs.Reference.{reads_back};
-ghost use Rattle.sig_calls.specs.Clients.{Fulfils};
+ghost use Rattle.sig_calls.specs.Clients.{ClientMeets};
 ghost use Rattle.sig_settings.specs.Auths.{registry_auth};
-ghost use Rattle.cosign_layers.specs.Standing.{stands};
-ghost use Rattle.cosign_rows.specs.Refusal.{is_memory, Says};
+ghost use Rattle.cosign_layers.specs.Satisfying.{satisfies_policy};
+ghost use Rattle.cosign_rows.specs.Refusal.{is_memory, Matches};
 ghost use Rattle.cosign_rows.specs.Terms.{meaning_of};
-ghost use Rattle.cosign_rows.specs.Tails.{after_search, after_standing};
+ghost use Rattle.cosign_rows.specs.Tails.{after_search, after_selection};
 ghost use Rattle.cosign_rows.specs.Verified.{constrained, is_unconstrained};
 ghost use Rattle.cosign_rows.specs.References.{digest_reference};
-ghost use Rattle.cosign_rows.specs.Verified.{manifest_digests, readable, standing_by, stood_image};
+ghost use Rattle.cosign_rows.specs.Verified.{manifest_digests, readable, signed_digest, signed_image};
 ghost use Rattle.cosign_rows.specs.Verified.{verified, verified_image};
 
 use cosign_chain::VerifiedImage;
-use cosign_layers::{Offline, PullPolicy, SignatureLayer, SignatureVerifier, first_standing};
+use cosign_layers::{Offline, PullPolicy, SignatureLayer, SignatureVerifier, first_satisfying};
 use cosign_pull::pull_image;
 use cosign_rows::{
-    Asked, PullRefusal, Pulled, PulledManifest, Standing, Terms, TrustedLayers, digest_reference,
+    Asked, PullRefusal, Pulled, PulledManifest, SignedDigest, Terms, TrustedLayers,
+    digest_reference,
 };
 use cosign_search::search;
 use json_values::{Copied, Text};
@@ -36,10 +37,10 @@ fn first_signature<V: SignatureVerifier>(
     policy: &PullPolicy,
     layers: &[SignatureLayer],
 ) -> Result<Option<SignatureLayer>, AllocError>
-    ensures { IfOk result (λ found. found ≡ find (stands (V.valid verifier.now) policy.now
+    ensures { IfOk result (λ found. found ≡ find (satisfies_policy (V.valid verifier.now) policy.now
         (λ b. accepts (b.vtable, b.value))) layers.now) }
 {
-    match first_standing(alloc, verifier, policy, layers)? {
+    match first_satisfying(alloc, verifier, policy, layers)? {
         Some(place) => match layers.get(place) {
             Some(layer) => Ok(Some(layer.copy(alloc)?)),
             None => Ok(None),
@@ -49,8 +50,11 @@ fn first_signature<V: SignatureVerifier>(
 }
 
 // The digest with its layer, if one satisfies the policy.
-fn standing_by(found: TrustedLayers, first: Option<SignatureLayer>) -> Result<Standing, PullRefusal>
-    ensures { result ≡ standing_by found first }
+fn signed_digest(
+    found: TrustedLayers,
+    first: Option<SignatureLayer>,
+) -> Result<SignedDigest, PullRefusal>
+    ensures { result ≡ signed_digest found first }
 {
     let TrustedLayers {
         digest,
@@ -58,7 +62,7 @@ fn standing_by(found: TrustedLayers, first: Option<SignatureLayer>) -> Result<St
         skipped,
     } = found;
     match first {
-        Some(signature) => Ok(Standing { digest, signature }),
+        Some(signature) => Ok(SignedDigest { digest, signature }),
         None => Err(PullRefusal::Unsatisfied {
             digest,
             collected,
@@ -78,11 +82,11 @@ fn manifest_digests(digest: Text, entry: Option<Text>) -> (Text, Option<Text>)
 }
 
 // The image of the digest, with the signature layer that stands for it. `digest` is a copy that was made before.
-fn verified_image(standing: Standing, pulled: Pulled, digest: Text) -> VerifiedImage
+fn verified_image(standing: SignedDigest, pulled: Pulled, digest: Text) -> VerifiedImage
     requires { digest ≡ standing.digest }
     ensures { result ≡ verified_image standing pulled }
 {
-    let Standing {
+    let SignedDigest {
         digest: answered,
         signature,
     } = standing;
@@ -112,13 +116,13 @@ fn verified_image(standing: Standing, pulled: Pulled, digest: Text) -> VerifiedI
     }
 }
 
-fn stood_image(
-    standing: Standing,
+fn signed_image(
+    standing: SignedDigest,
     digest: Text,
     pulled: Result<Pulled, SigstoreError>,
 ) -> Result<VerifiedImage, PullRefusal>
     requires { digest ≡ standing.digest }
-    ensures { result ≡ stood_image standing pulled }
+    ensures { result ≡ signed_image standing pulled }
 {
     match pulled {
         Ok(pulled) => Ok(verified_image(standing, pulled, digest)),
@@ -141,26 +145,26 @@ fn named_source(
 }
 
 // The image of a digest that a layer stands for.
-fn pull_stood<C: ClientCapabilities, T: Transport>(
+fn pull_signed<C: ClientCapabilities, T: Transport>(
     alloc: Global,
     client: &mut C,
     transport: &mut T,
     asked: &Asked<'_>,
     accepted: &[Text],
-    standing: Standing,
+    standing: SignedDigest,
 ) -> Result<VerifiedImage, PullRefusal>
-    ensures { (s : Settings) → Fulfils is_memory s
-        (after_standing (within s asked.now.moment) asked.now.image.now asked.now.auth.now accepted.now standing)
+    ensures { (s : Settings) → ClientMeets is_memory s
+        (after_selection (within s asked.now.moment) asked.now.image.now asked.now.auth.now accepted.now standing)
         (C.state client.old) (C.state client.new) (T.state transport.old) (T.state transport.new) result }
 {
     let named = named_source(alloc, asked.image, &standing.digest)?;
     let (source, digest) = named;
     let pulled = pull_image(alloc, client, transport, asked, &source, accepted);
-    stood_image(standing, digest, pulled)
+    signed_image(standing, digest, pulled)
 }
 
 // The image that a layer stands for.
-fn pull_standing<C: ClientCapabilities, T: Transport, V: SignatureVerifier, O: Offline>(
+fn pull_selected<C: ClientCapabilities, T: Transport, V: SignatureVerifier, O: Offline>(
     alloc: Global,
     client: &mut C,
     transport: &mut T,
@@ -168,15 +172,15 @@ fn pull_standing<C: ClientCapabilities, T: Transport, V: SignatureVerifier, O: O
     terms: &Terms<'_, V, O>,
     found: TrustedLayers,
 ) -> Result<VerifiedImage, PullRefusal>
-    ensures { (s : Settings) → Fulfils is_memory s
+    ensures { (s : Settings) → ClientMeets is_memory s
         (after_search (meaning_of V.valid O.vouched (λ b. accepts (b.vtable, b.value)) terms.now)
         (within s asked.now.moment) asked.now.image.now asked.now.auth.now terms.now.accepted.now found)
         (C.state client.old) (C.state client.new) (T.state transport.old) (T.state transport.new) result }
 {
     let verifier = terms.trusted.verifier;
     let first = first_signature(alloc, verifier, terms.policy, found.collected.as_slice())?;
-    let standing = standing_by(found, first)?;
-    pull_stood(alloc, client, transport, asked, terms.accepted, standing)
+    let standing = signed_digest(found, first)?;
+    pull_signed(alloc, client, transport, asked, terms.accepted, standing)
 }
 
 // Refuses a policy without a constraint.
@@ -191,7 +195,7 @@ fn constrained(policy: &PullPolicy) -> Result<(), PullRefusal>
 
 // Refuses a reference that does not round-trip.
 fn readable(alloc: Global, image: &Reference) -> Result<(), PullRefusal>
-    ensures { Says result (readable image.now) }
+    ensures { Matches result (readable image.now) }
 {
     let reads_back = image.reads_back(alloc)?;
     if reads_back {
@@ -212,7 +216,7 @@ pub fn pull_verified<C: ClientCapabilities, T: Transport, V: SignatureVerifier, 
     auth: &Auth,
     terms: &Terms<'_, V, O>,
 ) -> Result<VerifiedImage, PullRefusal>
-    ensures run { (s : Settings) → Fulfils is_memory s
+    ensures run { (s : Settings) → ClientMeets is_memory s
         (verified (meaning_of V.valid O.vouched (λ b. accepts (b.vtable, b.value)) terms.now)
         (within s moment) image.now (registry_auth auth.now) terms.now.accepted.now)
         (C.state client.old) (C.state client.new) (T.state transport.old) (T.state transport.new) result }
@@ -229,6 +233,6 @@ pub fn pull_verified<C: ClientCapabilities, T: Transport, V: SignatureVerifier, 
         auth: &auth,
     };
     let found = search(alloc, client, transport, &asked, &terms.trusted)?;
-    let image = pull_standing(alloc, client, transport, &asked, terms, found)?;
+    let image = pull_selected(alloc, client, transport, &asked, terms, found)?;
     Ok(image)
 }

@@ -1,9 +1,9 @@
 // Decides how the response to a blob's request is read.
 ghost use Rattle.std.specs.Prelude.{◌≡◌, List, ℕ, IfOk, []};
-ghost use Rattle.oci_digests.specs.Error.{Says as DigestSays};
+ghost use Rattle.oci_digests.specs.Error.{Matches as DigestSays};
 ghost use Rattle.oci_digests.specs.Names.{digest_text};
 ghost use Rattle.oci_digests.specs.Both.{BothHold, given_text, texts_of};
-ghost use Rattle.engine_terms.specs.Error.{Says};
+ghost use Rattle.engine_terms.specs.Error.{Matches};
 ghost use Rattle.engine_answers.specs.Blobs.{digest_expected, given_expected, pouring, plan_by};
 ghost use Rattle.engine_answers.specs.Blobs.{plan_in, plan_of, compared, given_compared};
 ghost use Rattle.engine_answers.specs.Blobs.{both_compared, given_algorithm};
@@ -120,7 +120,7 @@ pub fn digesters(given: &Option<Expected>, own: &Expected) -> Digesters
 // Checks that the digest of the bytes is the expected one.
 fn compared(alloc: Global, actual: Text, expected: &Expected) -> Result<(), OciDistributionError>
     ensures { (m : List ℕ) → actual ≡ digest_text expected.now.algorithm m
-        → Says result (compared expected.now m) }
+        → Matches result (compared expected.now m) }
 {
     if expected.text.as_str() == actual.as_str() {
         return Ok(());
@@ -135,7 +135,7 @@ fn given_compared(
     given: &Option<Expected>,
 ) -> Result<(), OciDistributionError>
     ensures { (m : List ℕ) → actual ≡ given_text (given_algorithm given.now) m
-        → Says result (given_compared given.now m) }
+        → Matches result (given_compared given.now m) }
 {
     match given {
         Some(given) => match actual {
@@ -157,7 +157,7 @@ pub fn both_compared(
     own: &Expected,
 ) -> Result<(), OciDistributionError>
     ensures { (m : List ℕ) → BothHold digesters.old (given_algorithm given.now) own.now.algorithm m
-        → Says result (both_compared given.now own.now m) }
+        → Matches result (both_compared given.now own.now m) }
 {
     let texts = digesters.texts(alloc)?;
     given_compared(alloc, texts.given, given)?;

@@ -1,14 +1,14 @@
 // One request for a blob.
 ghost use Rattle.std.specs.Prelude.{ℕ, List};
-ghost use Rattle.oci_auth.specs.declared.memory.Memory.{Memory};
+ghost use Rattle.oci_auth.specs.declared.auth_state.AuthState.{AuthState};
 ghost use Rattle.oci_transport.specs.declared.message.Request.{Request as Asked};
 ghost use Rattle.oci_protocol.specs.Follow.{Reaches};
 ghost use Rattle.oci_protocol.specs.Runs.{Meets};
 ghost use Rattle.oci_transport.specs.Link.{Link, answer_of};
 ghost use Rattle.engine_answers.specs.Answers.{refused_answer};
-ghost use Rattle.engine_terms.specs.Error.{is_memory, Says, SaysError};
+ghost use Rattle.engine_terms.specs.Error.{is_memory, Matches, MatchesError};
 ghost use Rattle.engine_answers.specs.Blobs.{both_compared};
-ghost use Rattle.engine_rows.specs.Blobs.{IntoSink, IntoMemory, attempt, Spills};
+ghost use Rattle.engine_rows.specs.Blobs.{IntoSink, IntoMemory, attempt, MeetsIntoSink};
 ghost use Rattle.engine_rows.specs.Offers.{Takes, Offered, OfferedInto, offer};
 ghost use Rattle.engine_rows.specs.Rows.{Row};
 
@@ -16,13 +16,13 @@ use engine_answers::{Expected, Plan, both_compared, digesters, is_error, plan_of
 use engine_rows::got_of;
 use engine_terms::OciDistributionError;
 use json_values::{Blob, Sink};
-use oci_protocol::{PourError, Reached, pour, reach};
+use oci_protocol::{Reached, StreamBodyError, reach, stream_body};
 use oci_transport::{BodyError, LinkError, Request, Transport, read_body};
 use std::alloc::{AllocError, Global};
 
 // Returns why the last response is refused, with its body.
 fn refusal_of(alloc: Global, reached: &Reached, body: Blob) -> OciDistributionError
-    ensures { SaysError result
+    ensures { MatchesError result
         (refused_answer 200 reached.now.request.url (answer_of reached.now.head body)) }
 {
     match got_of(alloc, reached, body) {
@@ -41,10 +41,10 @@ fn put_reached<T: Transport, K: Sink>(
     reached: &Reached,
     out: &mut K,
 ) -> Result<(), OciDistributionError>
-    ensures { (old : Link) (request : Asked) (k : Memory) (p : Row (List ℕ))
+    ensures { (old : Link) (request : Asked) (k : AuthState) (p : Row (List ℕ))
         → Reaches 10 request reached.now.head reached.now.request old (T.state transport.old)
         → Takes IntoSink limit digest.now request reached.now.head p
-        → Spills p old (T.state transport.new) k k (K.state out.old) (K.state out.new) result }
+        → MeetsIntoSink p old (T.state transport.new) k k (K.state out.old) (K.state out.new) result }
 {
     let plan = plan_of(alloc, digest, &reached.head)?;
     match plan {
@@ -57,15 +57,15 @@ fn put_reached<T: Transport, K: Sink>(
         },
         Plan::Pour(given, own) => {
             let mut digesters = digesters(&given, &own);
-            match pour(alloc, transport, out, limit, &mut digesters) {
+            match stream_body(alloc, transport, out, limit, &mut digesters) {
                 Ok(()) => {
                     both_compared(alloc, &mut digesters, &given, &own)?;
                     Ok(())
                 }
-                Err(PourError::TransportFault) => Err(OciDistributionError::TransportFault),
-                Err(PourError::BodyTooLong) => Err(OciDistributionError::BodyTooLong),
-                Err(PourError::SinkFault) => Err(OciDistributionError::SinkFault),
-                Err(PourError::WantOfMemory) => Err(OciDistributionError::WantOfMemory),
+                Err(StreamBodyError::TransportFault) => Err(OciDistributionError::TransportFault),
+                Err(StreamBodyError::BodyTooLong) => Err(OciDistributionError::BodyTooLong),
+                Err(StreamBodyError::SinkFault) => Err(OciDistributionError::SinkFault),
+                Err(StreamBodyError::WantOfMemory) => Err(OciDistributionError::WantOfMemory),
             }
         }
     }
@@ -82,7 +82,7 @@ pub fn attempt<T: Transport, K: Sink>(
     request: &Request,
     out: &mut K,
 ) -> Result<(), OciDistributionError>
-    ensures { (k : Memory) → Spills (attempt IntoSink limit digest.now request.now)
+    ensures { (k : AuthState) → MeetsIntoSink (attempt IntoSink limit digest.now request.now)
         (T.state transport.old) (T.state transport.new) k k (K.state out.old)
         (K.state out.new) result }
 {
@@ -106,7 +106,7 @@ pub fn offer<T: Transport, K: Sink>(
     request: &Request,
     out: &mut K,
 ) -> Result<bool, OciDistributionError>
-    ensures { (k : Memory) (next : Row (List ℕ)) → OfferedInto next
+    ensures { (k : AuthState) (next : Row (List ℕ)) → OfferedInto next
         (offer IntoSink limit digest.now next request.now)
         (T.state transport.old) (T.state transport.new) k (K.state out.old) (K.state out.new) result }
 {
@@ -129,7 +129,7 @@ fn have_digests(
     given: &Option<Expected>,
     own: &Expected,
 ) -> Result<(), OciDistributionError>
-    ensures { Says result (both_compared given.now own.now body.now) }
+    ensures { Matches result (both_compared given.now own.now body.now) }
 {
     let mut digesters = digesters(given, own);
     digesters.update(body.as_slice());
@@ -145,7 +145,7 @@ fn held_reached<T: Transport>(
     digest: &str,
     reached: &Reached,
 ) -> Result<Blob, OciDistributionError>
-    ensures { (old : Link) (request : Asked) (k : Memory) (p : Row (List ℕ))
+    ensures { (old : Link) (request : Asked) (k : AuthState) (p : Row (List ℕ))
         → Reaches 10 request reached.now.head reached.now.request old (T.state transport.old)
         → Takes IntoMemory limit digest.now request reached.now.head p
         → Meets is_memory p old (T.state transport.new) k k result }
@@ -180,7 +180,7 @@ pub fn held<T: Transport>(
     digest: &str,
     request: &Request,
 ) -> Result<Blob, OciDistributionError>
-    ensures { (k : Memory) → Meets is_memory (attempt IntoMemory limit digest.now request.now)
+    ensures { (k : AuthState) → Meets is_memory (attempt IntoMemory limit digest.now request.now)
         (T.state transport.old) (T.state transport.new) k k result }
 {
     let reached = match reach(alloc, transport, 10, request) {
@@ -202,7 +202,7 @@ pub fn held_offer<T: Transport>(
     digest: &str,
     request: &Request,
 ) -> Result<Option<Blob>, OciDistributionError>
-    ensures { (k : Memory) (next : Row (List ℕ)) → Offered next (offer IntoMemory limit digest.now next request.now)
+    ensures { (k : AuthState) (next : Row (List ℕ)) → Offered next (offer IntoMemory limit digest.now next request.now)
         (T.state transport.old) (T.state transport.new) k result }
 {
     let reached = match reach(alloc, transport, 10, request) {

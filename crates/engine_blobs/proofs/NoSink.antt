@@ -5,7 +5,7 @@ use Rattle.std.specs.Result.{IsErrAnd}
 use Rattle.std.proofs.lemmas.Result.{err_from_is_err_and}
 use Rattle.std.specs.FinMap as map
 use Rattle.url.specs.Parts.{Parts, serialize}
-use Rattle.json_values.specs.Tray.{Tray}
+use Rattle.json_values.specs.SinkState.{SinkState}
 use Rattle.oci_transport.specs.Link.{Link}
 use Rattle.oci_transport.specs.Urls.{request_url}
 use Rattle.oci_transport.specs.Headers.{Fields, added, held, is_header_value}
@@ -13,7 +13,7 @@ use Rattle.oci_transport.specs.declared.message.Method.{Method}
 use Rattle.oci_names.specs.declared.reference.Reference.{Reference}
 use Rattle.oci_names.specs.Reference.{resolved_registry}
 use Rattle.oci_auth.specs.declared.auth.RegistryAuth.{RegistryAuth}
-use Rattle.oci_auth.specs.declared.memory.Memory.{Memory}
+use Rattle.oci_auth.specs.declared.auth_state.AuthState.{AuthState}
 use Rattle.oci_auth.specs.Cache.{key_of, token_at}
 use Rattle.oci_auth.specs.Auth.{authorization_of}
 use Rattle.oci_auth.specs.Kept.{Key}
@@ -32,7 +32,7 @@ use Rattle.engine_terms.specs.Error.{is_memory, ◌>>=◌ as ◌into◌}
 use Rattle.engine_requests.specs.Addresses.{url_or, url_read, registry_text}
 use Rattle.engine_requests.specs.Requests.{with_header, with_accept, with_token, headers_of, request_of}
 use Rattle.engine_rows.specs.Rows.{Row, passed_over, taken, token_step, token_asked, kept_or_asked, token_by, token_for, goes_to, token_where, authorized, prepared}
-use Rattle.engine_rows.specs.Blobs.{Spills}
+use Rattle.engine_rows.specs.Blobs.{MeetsIntoSink}
 use Rattle.engine_attempts.proofs.Attempts.{spills_none}
 
 -- an error is not a fault of the sink
@@ -81,7 +81,7 @@ unless_calm f each (Err e) h = h
 pub next_calm : {A B : Type 0} (p : Row A) (f : A → Row B) → Ends Calm p → ((a : A) → Ends Calm (f a)) → Ends Calm (p >>= f)
 next_calm p f h each = Ends-bind Calm Calm p (unless_refused f) h (unless_calm f each)
 
-pub done_calm : {A : Type 0} (r : Result A OciDistributionError) → Calm r → Ends {K = Memory} Calm (Done r)
+pub done_calm : {A : Type 0} (r : Result A OciDistributionError) → Calm r → Ends {K = AuthState} Calm (Done r)
 unfolding Ends
 done_calm r h = h
 
@@ -127,5 +127,5 @@ is_calm : (e : OciDistributionError) → MatchBool (is_memory e) (Unit {0}) (e �
 is_calm e h is = (rw is at h) refl
 
 -- a step before it returned an error, with nothing written
-pub spills_refused : {A : Type 0} {p : Row A} (f : A → Row (List ℕ)) {old new : Link} {k l : Memory} {e : OciDistributionError} {r : Result Unit OciDistributionError} (tray : Tray) → Ends Calm p → Meets is_memory p old new k l (Err e) → Meets is_memory (p >>= f) old new k l (Err e) → IsErrAnd r (λ x. x ≡ e) → Spills (p >>= f) old new k l tray tray r
-spills_refused f {e = e} {r = r} tray calm met all is = let at = err_from_is_err_and r is in rw (at.1, at.2) (spills_none tray all (λ h. let sink : e ≡ refusal.SinkFault = cc in absurd (is_calm e (Meets-ends Calm calm met) sink)))
+pub spills_refused : {A : Type 0} {p : Row A} (f : A → Row (List ℕ)) {old new : Link} {k l : AuthState} {e : OciDistributionError} {r : Result Unit OciDistributionError} (sink_state : SinkState) → Ends Calm p → Meets is_memory p old new k l (Err e) → Meets is_memory (p >>= f) old new k l (Err e) → IsErrAnd r (λ x. x ≡ e) → MeetsIntoSink (p >>= f) old new k l sink_state sink_state r
+spills_refused f {e = e} {r = r} sink_state calm met all is = let at = err_from_is_err_and r is in rw (at.1, at.2) (spills_none sink_state all (λ h. let sink : e ≡ refusal.SinkFault = cc in absurd (is_calm e (Meets-ends Calm calm met) sink)))

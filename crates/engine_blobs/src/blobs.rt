@@ -1,10 +1,10 @@
 // Pulls blobs, into a sink or into memory.
-ghost use Rattle.oci_auth.specs.declared.memory.Memory.{Memory};
+ghost use Rattle.oci_auth.specs.declared.auth_state.AuthState.{AuthState};
 ghost use Rattle.oci_protocol.specs.Runs.{Meets};
 ghost use Rattle.engine_terms.specs.Contexts.{context_of};
 ghost use Rattle.engine_terms.specs.Error.{is_memory};
 ghost use Rattle.engine_requests.specs.Sources.{layer_in, places_of};
-ghost use Rattle.engine_rows.specs.Blobs.{IntoSink, IntoMemory, Spills};
+ghost use Rattle.engine_rows.specs.Blobs.{IntoSink, IntoMemory, MeetsIntoSink};
 ghost use Rattle.engine_rows.specs.Offers.{tried};
 ghost use Rattle.engine_rows.specs.Pulls.{pull_blob, held_blob};
 
@@ -13,7 +13,7 @@ use engine_requests::{LayerDescriptor, MANIFEST_TYPES, asked_at, blob_url, place
 use engine_steps::{Target, prepared};
 use engine_terms::{Call, OciDistributionError, Settings};
 use json_values::{Blob, Sink, Text};
-use oci_auth::{Memory, RegistryOperation};
+use oci_auth::{AuthState, RegistryOperation};
 use oci_transport::{Method, Request, Transport};
 use std::alloc::Global;
 
@@ -27,7 +27,7 @@ fn tried<T: Transport, K: Sink>(
     mut request: Request,
     out: &mut K,
 ) -> Result<(), OciDistributionError>
-    ensures { (k : Memory) → Spills (tried IntoSink settings.now digest.now (places_of urls.now) request)
+    ensures { (k : AuthState) → MeetsIntoSink (tried IntoSink settings.now digest.now (places_of urls.now) request)
         (T.state transport.old) (T.state transport.new) k k (K.state out.old) (K.state out.new) result }
 {
     for url in urls {
@@ -55,7 +55,7 @@ fn held_tried<T: Transport>(
     urls: &[Text],
     mut request: Request,
 ) -> Result<Blob, OciDistributionError>
-    ensures { (k : Memory) → Meets is_memory (tried IntoMemory settings.now digest.now (places_of urls.now) request)
+    ensures { (k : AuthState) → Meets is_memory (tried IntoMemory settings.now digest.now (places_of urls.now) request)
         (T.state transport.old) (T.state transport.new) k k result }
 {
     for url in urls {
@@ -80,12 +80,12 @@ fn held_tried<T: Transport>(
 pub fn pull_blob<T: Transport, K: Sink>(
     alloc: Global,
     transport: &mut T,
-    memory: &mut Memory,
+    memory: &mut AuthState,
     call: &Call,
     layer: &LayerDescriptor,
     out: &mut K,
 ) -> Result<(), OciDistributionError>
-    ensures { Spills (pull_blob (context_of call.now) call.now.image.now (layer_in layer.now))
+    ensures { MeetsIntoSink (pull_blob (context_of call.now) call.now.image.now (layer_in layer.now))
         (T.state transport.old) (T.state transport.new) memory.old memory.new (K.state out.old)
         (K.state out.new) result }
 {
@@ -121,7 +121,7 @@ pub fn pull_blob<T: Transport, K: Sink>(
 pub fn pulled_blob<T: Transport>(
     alloc: Global,
     transport: &mut T,
-    memory: &mut Memory,
+    memory: &mut AuthState,
     call: &Call,
     layer: &LayerDescriptor,
 ) -> Result<Blob, OciDistributionError>

@@ -1,9 +1,9 @@
 // Pulls documents and their digests.
 ghost use Rattle.std.specs.Prelude.{◌≡◌};
-ghost use Rattle.oci_auth.specs.declared.memory.Memory.{Memory};
+ghost use Rattle.oci_auth.specs.declared.auth_state.AuthState.{AuthState};
 ghost use Rattle.oci_protocol.specs.Runs.{Meets};
 ghost use Rattle.engine_terms.specs.Contexts.{context_of};
-ghost use Rattle.engine_terms.specs.Error.{is_memory, Says};
+ghost use Rattle.engine_terms.specs.Error.{is_memory, Matches};
 ghost use Rattle.engine_rows.specs.Pulls.{document, manifest_document, pull_manifest_raw};
 ghost use Rattle.engine_rows.specs.Pulls.{digest_by, fetch_manifest_digest, pull_manifest, manifest_asked};
 
@@ -13,7 +13,7 @@ use engine_rows::NamedAnswer;
 use engine_steps::{Target, named_after, prepared, whole};
 use engine_terms::{Call, OciDistributionError};
 use json_values::{Blob, Text};
-use oci_auth::{Memory, RegistryAuth, RegistryOperation, store};
+use oci_auth::{AuthState, RegistryAuth, RegistryOperation, store};
 use oci_manifests::OciManifest;
 use oci_transport::{Method, Transport};
 use std::alloc::Global;
@@ -23,7 +23,7 @@ use url::Url;
 fn document<T: Transport>(
     alloc: Global,
     transport: &mut T,
-    memory: &mut Memory,
+    memory: &mut AuthState,
     call: &Call,
     url: &Url,
     types: &str,
@@ -53,7 +53,7 @@ fn document<T: Transport>(
 pub fn manifest_document<T: Transport>(
     alloc: Global,
     transport: &mut T,
-    memory: &mut Memory,
+    memory: &mut AuthState,
     call: &Call,
     types: &str,
 ) -> Result<(Blob, Text), OciDistributionError>
@@ -69,7 +69,7 @@ pub fn manifest_document<T: Transport>(
 pub fn pull_manifest_raw<T: Transport>(
     alloc: Global,
     transport: &mut T,
-    memory: &mut Memory,
+    memory: &mut AuthState,
     call: &Call,
     auth: &RegistryAuth,
     types: &str,
@@ -86,7 +86,7 @@ pub fn pull_manifest_raw<T: Transport>(
 fn digest_by<T: Transport>(
     alloc: Global,
     transport: &mut T,
-    memory: &mut Memory,
+    memory: &mut AuthState,
     call: &Call,
     url: &Url,
     named: NamedAnswer,
@@ -111,7 +111,7 @@ fn digest_by<T: Transport>(
 pub fn fetch_manifest_digest<T: Transport>(
     alloc: Global,
     transport: &mut T,
-    memory: &mut Memory,
+    memory: &mut AuthState,
     call: &Call,
     auth: &RegistryAuth,
 ) -> Result<Text, OciDistributionError>
@@ -142,7 +142,7 @@ pub fn fetch_manifest_digest<T: Transport>(
 pub fn pull_manifest<T: Transport>(
     alloc: Global,
     transport: &mut T,
-    memory: &mut Memory,
+    memory: &mut AuthState,
     call: &Call,
     auth: &RegistryAuth,
 ) -> Result<(OciManifest, Text), OciDistributionError>
@@ -158,7 +158,7 @@ pub fn pull_manifest<T: Transport>(
 pub(crate) fn manifest_asked<T: Transport>(
     alloc: Global,
     transport: &mut T,
-    memory: &mut Memory,
+    memory: &mut AuthState,
     call: &Call,
 ) -> Result<(OciManifest, Text), OciDistributionError>
     ensures { Meets is_memory (manifest_asked (context_of call.now) call.now.image.now)

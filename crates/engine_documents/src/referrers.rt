@@ -1,6 +1,6 @@
 // Pulls the referrers of a manifest.
 ghost use Rattle.std.specs.Prelude.{◌≡◌, option_copied};
-ghost use Rattle.oci_auth.specs.declared.memory.Memory.{Memory};
+ghost use Rattle.oci_auth.specs.declared.auth_state.AuthState.{AuthState};
 ghost use Rattle.oci_protocol.specs.Runs.{Meets};
 ghost use Rattle.engine_terms.specs.Contexts.{context_of};
 ghost use Rattle.engine_terms.specs.Error.{is_memory};
@@ -12,7 +12,7 @@ use engine_answers::{Got, fallback_reference, referrers_in, tagged_index};
 use engine_requests::{MANIFEST_TYPES, digest_given, referrers_url};
 use engine_steps::{Target, prepared, whole};
 use engine_terms::{Call, OciDistributionError};
-use oci_auth::{Memory, RegistryOperation};
+use oci_auth::{AuthState, RegistryOperation};
 use oci_manifests::OciImageIndex;
 use oci_transport::{Method, Transport};
 use std::alloc::Global;
@@ -21,7 +21,7 @@ use std::alloc::Global;
 fn referrers_asked<T: Transport>(
     alloc: Global,
     transport: &mut T,
-    memory: &mut Memory,
+    memory: &mut AuthState,
     call: &Call,
     digest: &str,
     artifact_type: Option<&str>,
@@ -52,7 +52,7 @@ fn referrers_asked<T: Transport>(
 fn referrers_tagged<T: Transport>(
     alloc: Global,
     transport: &mut T,
-    memory: &mut Memory,
+    memory: &mut AuthState,
     call: &Call,
     digest: &str,
     artifact_type: Option<&str>,
@@ -75,7 +75,7 @@ fn referrers_tagged<T: Transport>(
 fn referrers_by<T: Transport>(
     alloc: Global,
     transport: &mut T,
-    memory: &mut Memory,
+    memory: &mut AuthState,
     call: &Call,
     digest: &str,
     artifact_type: Option<&str>,
@@ -99,7 +99,7 @@ fn referrers_by<T: Transport>(
 pub fn pull_referrers<T: Transport>(
     alloc: Global,
     transport: &mut T,
-    memory: &mut Memory,
+    memory: &mut AuthState,
     call: &Call,
     artifact_type: Option<&str>,
 ) -> Result<OciImageIndex, OciDistributionError>

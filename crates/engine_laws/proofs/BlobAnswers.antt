@@ -14,12 +14,12 @@ use Rattle.oci_digests.specs.Checks.{named_algorithm}
 use Rattle.oci_digests.specs.Checks.{header_digest as digest_in, and_then}
 use Rattle.oci_digests.specs.declared.error.DigestError.{DigestError}
 use Rattle.oci_digests.specs.declared.error.DigestError.TheVariants.{VerificationError}
-use Rattle.oci_auth.specs.declared.memory.Memory.{Memory}
+use Rattle.oci_auth.specs.declared.auth_state.AuthState.{AuthState}
 use Rattle.oci_auth.specs.declared.token_type.RegistryOperation.TheVariants.{Pull}
 use Rattle.oci_protocol.specs.Proto.{Unread, Reply, Headed, Answered, Failed, TooLong, SinkFailed, ◌>>=◌}
 use Rattle.oci_protocol.specs.Runs.{head_part, Runs}
-use Rattle.oci_protocol.specs.Shows.{Shows, WhereOk, Heard}
-use Rattle.oci_protocol.proofs.RunFacts.{done_run, Shows-more, Shows-next, Shows-step}
+use Rattle.oci_protocol.specs.EveryRun.{EveryRun, WhenOk, Heard}
+use Rattle.oci_protocol.proofs.RunFacts.{done_run, EveryRun-more, EveryRun-next, EveryRun-step}
 use Rattle.engine_answers.specs.declared.blobs.Expected.{Expected}
 use Rattle.engine_answers.specs.declared.blobs.Plan.{Plan}
 use Rattle.engine_answers.specs.declared.blobs.Plan.TheVariants as plan
@@ -101,35 +101,35 @@ never_unread : (to : Destination) (limit : ℕ) → reading_into to limit ≡ Un
 never_unread IntoSink limit is = cc is
 never_unread IntoMemory limit is = cc is
 
-unread_where : (to : Destination) (digest : List ℕ) (limit m after : ℕ) (c : List Exchange) (p : Plan) → reading_by to limit p ≡ Unread → WhereOk (λ m c n bytes. Blob digest c bytes) m (c ++ []) after (unread_by p)
+unread_where : (to : Destination) (digest : List ℕ) (limit m after : ℕ) (c : List Exchange) (p : Plan) → reading_by to limit p ≡ Unread → WhenOk (λ m c n bytes. Blob digest c bytes) m (c ++ []) after (unread_by p)
 unread_where to digest limit m after c (plan.Refuse e) reading = tt
 unread_where to digest limit m after c plan.Judge reading = absurd (cc reading)
 unread_where to digest limit m after c (plan.Pour given own) reading = absurd (never_unread to limit reading)
 
-blob_of : (digest : List ℕ) (url : List ℕ) (m after : ℕ) (c : List Exchange) (answer : Answer) (given : Option Expected) (own : Expected) → digest ≡ own.text → Body c answer.body → LastBody c answer.body → (r : Result (List ℕ) OciDistributionError) → (both_compared given own answer.body before Ok answer.body) ≡ r → WhereOk (λ m c n bytes. Blob digest c bytes) m (c ++ []) after r
+blob_of : (digest : List ℕ) (url : List ℕ) (m after : ℕ) (c : List Exchange) (answer : Answer) (given : Option Expected) (own : Expected) → digest ≡ own.text → Body c answer.body → LastBody c answer.body → (r : Result (List ℕ) OciDistributionError) → (both_compared given own answer.body before Ok answer.body) ≡ r → WhenOk (λ m c n bytes. Blob digest c bytes) m (c ++ []) after r
 blob_of digest url m after c answer given own same body last (Ok bytes) is =
     let poured = poured_is given own answer.body bytes is in
     rw append-nil (subst (Body c) poured.0 body, subst (λ (b : List ℕ). Names digest b) poured.0 (subst (λ (t : List ℕ). Names t answer.body) (sym same) poured.1), subst (LastBody c) poured.0 last)
 blob_of digest url m after c answer given own same body last (Err e) is = tt
 
-read_where : (digest url : List ℕ) (m after : ℕ) (c : List Exchange) (answer : Answer) (p : Plan) → plan_of digest (head_part answer) ≡ p → Body c answer.body → LastBody c answer.body → WhereOk (λ m c n bytes. Blob digest c bytes) m (c ++ []) after (read_by url answer p)
+read_where : (digest url : List ℕ) (m after : ℕ) (c : List Exchange) (answer : Answer) (p : Plan) → plan_of digest (head_part answer) ≡ p → Body c answer.body → LastBody c answer.body → WhenOk (λ m c n bytes. Blob digest c bytes) m (c ++ []) after (read_by url answer p)
 read_where digest url m after c answer (plan.Refuse e) is body last = tt
 read_where digest url m after c answer plan.Judge is body last = tt
 read_where digest url m after c answer (plan.Pour given own) is body last = blob_of digest url m after c answer given own (own_text digest (head_part answer) given own is) body last (both_compared given own answer.body before Ok answer.body) refl
 
-blob_run : (to : Destination) (digest : List ℕ) (request : Request) (limit : ℕ) (k l : Memory) (m after o : ℕ) (c d : List Exchange) (last : Request) (reply : Reply) (r : Result (List ℕ) OciDistributionError) → Heard 10 request (blob_reading to limit digest) m c after last reply → Runs (blob_reply digest last reply) k after d o l r → WhereOk (λ m c n bytes. Blob digest c bytes) m (c ++ d) o r
+blob_run : (to : Destination) (digest : List ℕ) (request : Request) (limit : ℕ) (k l : AuthState) (m after o : ℕ) (c d : List Exchange) (last : Request) (reply : Reply) (r : Result (List ℕ) OciDistributionError) → Heard 10 request (blob_reading to limit digest) m c after last reply → Runs (blob_reply digest last reply) k after d o l r → WhenOk (λ m c n bytes. Blob digest c bytes) m (c ++ d) o r
 unfolding blob_reading
-blob_run to digest request limit k l m after o c d last (Headed head) r h run = done_run (λ s d o r. WhereOk (λ m c n bytes. Blob digest c bytes) m (c ++ d) o r) (unread_by (plan_of digest head)) k l after o d r (unread_where to digest limit m after c (plan_of digest head) h.replies.reply_is.2) run
-blob_run to digest request limit k l m after o c d last (Answered answer) r h run = done_run (λ s d o r. WhereOk (λ m c n bytes. Blob digest c bytes) m (c ++ d) o r) (read_by last.url answer (plan_of digest (head_part answer))) k l after o d r (read_where digest last.url m after c answer (plan_of digest (head_part answer)) refl (body_led (led_of h answer h.replies.reply_is.1 h.settles)) (last_led (led_of h answer h.replies.reply_is.1 h.settles))) run
-blob_run to digest request limit k l m after o c d last Failed r h run = done_run (λ s d o r. WhereOk (λ m c n bytes. Blob digest c bytes) m (c ++ d) o r) (Err refusal.TransportFault) k l after o d r tt run
-blob_run to digest request limit k l m after o c d last TooLong r h run = done_run (λ s d o r. WhereOk (λ m c n bytes. Blob digest c bytes) m (c ++ d) o r) (Err refusal.BodyTooLong) k l after o d r tt run
-blob_run to digest request limit k l m after o c d last SinkFailed r h run = done_run (λ s d o r. WhereOk (λ m c n bytes. Blob digest c bytes) m (c ++ d) o r) (Err refusal.SinkFault) k l after o d r tt run
+blob_run to digest request limit k l m after o c d last (Headed head) r h run = done_run (λ s d o r. WhenOk (λ m c n bytes. Blob digest c bytes) m (c ++ d) o r) (unread_by (plan_of digest head)) k l after o d r (unread_where to digest limit m after c (plan_of digest head) h.replies.reply_is.2) run
+blob_run to digest request limit k l m after o c d last (Answered answer) r h run = done_run (λ s d o r. WhenOk (λ m c n bytes. Blob digest c bytes) m (c ++ d) o r) (read_by last.url answer (plan_of digest (head_part answer))) k l after o d r (read_where digest last.url m after c answer (plan_of digest (head_part answer)) refl (body_led (led_of h answer h.replies.reply_is.1 h.settles)) (last_led (led_of h answer h.replies.reply_is.1 h.settles))) run
+blob_run to digest request limit k l m after o c d last Failed r h run = done_run (λ s d o r. WhenOk (λ m c n bytes. Blob digest c bytes) m (c ++ d) o r) (Err refusal.TransportFault) k l after o d r tt run
+blob_run to digest request limit k l m after o c d last TooLong r h run = done_run (λ s d o r. WhenOk (λ m c n bytes. Blob digest c bytes) m (c ++ d) o r) (Err refusal.BodyTooLong) k l after o d r tt run
+blob_run to digest request limit k l m after o c d last SinkFailed r h run = done_run (λ s d o r. WhenOk (λ m c n bytes. Blob digest c bytes) m (c ++ d) o r) (Err refusal.SinkFault) k l after o d r tt run
 
-later_where : (digest : List ℕ) (c : List Exchange) (m start n : ℕ) (d : List Exchange) (r : Result (List ℕ) OciDistributionError) → WhereOk (λ m c n bytes. Blob digest c bytes) start d n r → WhereOk (λ m c n bytes. Blob digest c bytes) m (c ++ d) n r
+later_where : (digest : List ℕ) (c : List Exchange) (m start n : ℕ) (d : List Exchange) (r : Result (List ℕ) OciDistributionError) → WhenOk (λ m c n bytes. Blob digest c bytes) start d n r → WhenOk (λ m c n bytes. Blob digest c bytes) m (c ++ d) n r
 later_where digest c m start n d (Ok bytes) h = (body_after c h.0, h.1, last_after c h.2)
 later_where digest c m start n d (Err e) h = tt
 
-unasked_shows : (s : Settings) (digest : List ℕ) (places : List Place) → EachPlace (Unasked (WhereOk (λ m c n bytes. Blob digest c bytes)) s) places
+unasked_shows : (s : Settings) (digest : List ℕ) (places : List Place) → EachPlace (Unasked (WhenOk (λ m c n bytes. Blob digest c bytes)) s) places
 unasked_shows s digest [] = tt
 unasked_shows s digest (p ∷ ps) = ((λ e is m. tt), unasked_shows s digest ps)
 
@@ -137,13 +137,13 @@ given_shows : (s : Settings) (places : List Place) → EachPlace (Gives (λ requ
 given_shows s [] = tt
 given_shows s (p ∷ ps) = ((λ request is. tt), given_shows s ps)
 
-tried_shows : (to : Destination) (s : Settings) (digest : List ℕ) (places : List Place) (request : Request) → Shows (WhereOk (λ m c n bytes. Blob digest c bytes)) (tried to s digest places request)
-tried_shows to s digest places request = tried_law (WhereOk (λ m c n bytes. Blob digest c bytes)) (λ request. Unit {0}) to s digest (λ request good. blob_run to digest request s.max_body_bytes) (λ m start n c d r h. later_where digest c m start n d r h) places (given_shows s places) (unasked_shows s digest places) request tt
+tried_shows : (to : Destination) (s : Settings) (digest : List ℕ) (places : List Place) (request : Request) → EveryRun (WhenOk (λ m c n bytes. Blob digest c bytes)) (tried to s digest places request)
+tried_shows to s digest places request = tried_law (WhenOk (λ m c n bytes. Blob digest c bytes)) (λ request. Unit {0}) to s digest (λ request good. blob_run to digest request s.max_body_bytes) (λ m start n c d r h. later_where digest c m start n d r h) places (given_shows s places) (unasked_shows s digest places) request tt
 
 -- the bytes are those of a response, and the digest names them
-pub blob_shows : (to : Destination) (s : Context) (image : Reference) (layer : Layer) → Shows (WhereOk (λ m c n bytes. Blob layer.digest c bytes)) (blob_to to s image layer)
+pub blob_shows : (to : Destination) (s : Context) (image : Reference) (layer : Layer) → EveryRun (WhenOk (λ m c n bytes. Blob layer.digest c bytes)) (blob_to to s image layer)
 unfolding blob_to
-blob_shows to s image layer = Shows-step (WhereOk (λ m c n bytes. Blob layer.digest c bytes)) (url_read (blob_text s.settings image layer.digest)) (λ url. prepared s image Pull Get url manifest_types >>= λ request. tried to s.settings layer.digest (places_of layer.urls) request)
-    (λ url is. Shows-next (λ m c n request. Prepared s.settings image Pull Get url manifest_types c request) (λ m c n bytes. Blob layer.digest c bytes) (prepared s image Pull Get url manifest_types) (λ request. tried to s.settings layer.digest (places_of layer.urls) request) (prepared_shows s image Pull Get url manifest_types)
-    (λ m n c request p. Shows-more (WhereOk (λ m c n bytes. Blob layer.digest c bytes)) (λ start d o r. WhereOk (λ m c n bytes. Blob layer.digest c bytes) m (c ++ d) o r) (tried to s.settings layer.digest (places_of layer.urls) request) (tried_shows to s.settings layer.digest (places_of layer.urls) request) (λ start o d r h. later_where layer.digest c m start o d r h)))
+blob_shows to s image layer = EveryRun-step (WhenOk (λ m c n bytes. Blob layer.digest c bytes)) (url_read (blob_text s.settings image layer.digest)) (λ url. prepared s image Pull Get url manifest_types >>= λ request. tried to s.settings layer.digest (places_of layer.urls) request)
+    (λ url is. EveryRun-next (λ m c n request. Prepared s.settings image Pull Get url manifest_types c request) (λ m c n bytes. Blob layer.digest c bytes) (prepared s image Pull Get url manifest_types) (λ request. tried to s.settings layer.digest (places_of layer.urls) request) (prepared_shows s image Pull Get url manifest_types)
+    (λ m n c request p. EveryRun-more (WhenOk (λ m c n bytes. Blob layer.digest c bytes)) (λ start d o r. WhenOk (λ m c n bytes. Blob layer.digest c bytes) m (c ++ d) o r) (tried to s.settings layer.digest (places_of layer.urls) request) (tried_shows to s.settings layer.digest (places_of layer.urls) request) (λ start o d r h. later_where layer.digest c m start o d r h)))
     (λ e is m. tt)

@@ -19,12 +19,12 @@ use Rattle.oci_digests.specs.Checks.{header_digest as digest_in, and_then}
 use Rattle.oci_digests.specs.declared.digester.Algorithm.{Algorithm}
 use Rattle.oci_digests.specs.declared.error.DigestError.{DigestError}
 use Rattle.oci_digests.specs.declared.error.DigestError.TheVariants.{VerificationError}
-use Rattle.oci_auth.specs.declared.memory.Memory.{Memory}
+use Rattle.oci_auth.specs.declared.auth_state.AuthState.{AuthState}
 use Rattle.oci_auth.specs.declared.token_type.RegistryOperation.TheVariants.{Pull}
 use Rattle.oci_protocol.specs.Proto.{Piped, limit_of, Reply, Headed, Answered, Failed, TooLong, SinkFailed, ◌>>=◌}
 use Rattle.oci_protocol.specs.Runs.{head_part, Runs}
-use Rattle.oci_protocol.specs.Shows.{Shows, ByAnswer, Heard}
-use Rattle.oci_protocol.proofs.RunFacts.{done_run, Shows-more, Shows-each, Shows-step}
+use Rattle.oci_protocol.specs.EveryRun.{EveryRun, ByResult, Heard}
+use Rattle.oci_protocol.proofs.RunFacts.{done_run, EveryRun-more, EveryRun-each, EveryRun-step}
 use Rattle.engine_answers.specs.declared.blobs.Expected.{Expected}
 use Rattle.engine_answers.specs.declared.blobs.Plan.{Plan}
 use Rattle.engine_answers.specs.declared.blobs.Plan.TheVariants as plan
@@ -131,7 +131,7 @@ Any m c n bytes = Unit {0}
 abbrev Blob : (Act → Type 0) → Destination → Settings → List ℕ → ℕ → List Exchange → ℕ → OciDistributionError → Type 0
 Blob T to s digest m c n e = LooseBlob T to s digest c n e
 
-unread_where : (T : Act → Type 0) (to : Destination) (s : Settings) (digest : List ℕ) (m after : ℕ) (c : List Exchange) (address : List ℕ) (answer : Answer) (p : Plan) → PlanShape digest answer p → LastAnswer T c address answer → ByAnswer Any (Blob T to s digest) m c after (unread_by p)
+unread_where : (T : Act → Type 0) (to : Destination) (s : Settings) (digest : List ℕ) (m after : ℕ) (c : List Exchange) (address : List ℕ) (answer : Answer) (p : Plan) → PlanShape digest answer p → LastAnswer T c address answer → ByResult Any (Blob T to s digest) m c after (unread_by p)
 unread_where T to s digest m after c address answer (plan.Refuse e) shape last = shown T to s digest c after address answer (refusal.DigestError e) last shape
 unread_where T to s digest m after c address answer plan.Judge shape last = tt
 unread_where T to s digest m after c address answer (plan.Pour given own) shape last = tt
@@ -152,7 +152,7 @@ given_refused digest address answer (Some x) e shape is = not_compared digest ad
 own_refused : (digest : List ℕ) (address : List ℕ) (answer : Answer) (own : Expected) (e : OciDistributionError) → own.text ≡ digest → named_algorithm own.text ≡ Ok own.algorithm → compared own answer.body ≡ Err e → AnswerCause (AskedDigest digest) address answer e
 own_refused digest address answer own e same name is = not_compared digest address answer own e (inl same) name is
 
-poured : (T : Act → Type 0) (to : Destination) (s : Settings) (digest : List ℕ) (m after : ℕ) (c : List Exchange) (address : List ℕ) (answer : Answer) (first second : Result (Unit {0}) OciDistributionError) → ((e : OciDistributionError) → first ≡ Err e → AnswerCause (AskedDigest digest) address answer e) → ((e : OciDistributionError) → second ≡ Err e → AnswerCause (AskedDigest digest) address answer e) → LastAnswer T c address answer → ByAnswer Any (Blob T to s digest) m c after ((first before second) before Ok answer.body)
+poured : (T : Act → Type 0) (to : Destination) (s : Settings) (digest : List ℕ) (m after : ℕ) (c : List Exchange) (address : List ℕ) (answer : Answer) (first second : Result (Unit {0}) OciDistributionError) → ((e : OciDistributionError) → first ≡ Err e → AnswerCause (AskedDigest digest) address answer e) → ((e : OciDistributionError) → second ≡ Err e → AnswerCause (AskedDigest digest) address answer e) → LastAnswer T c address answer → ByResult Any (Blob T to s digest) m c after ((first before second) before Ok answer.body)
 poured T to s digest m after c address answer (Err e) second a b last = shown T to s digest c after address answer e last (a e refl)
 poured T to s digest m after c address answer (Ok u) (Err e) a b last = shown T to s digest c after address answer e last (b e refl)
 poured T to s digest m after c address answer (Ok u) (Ok v) a b last = tt
@@ -160,7 +160,7 @@ poured T to s digest m after c address answer (Ok u) (Ok v) a b last = tt
 not_200 : (status : ℕ) → is_success status ≡ false → status ≢ 200
 not_200 status is same = cc (sym is ∙ ap is_success same)
 
-read_where : (T : Act → Type 0) (to : Destination) (s : Settings) (digest : List ℕ) (m after : ℕ) (c : List Exchange) (address : List ℕ) (answer : Answer) (p : Plan) → PlanShape digest answer p → LastAnswer T c address answer → ByAnswer Any (Blob T to s digest) m c after (read_by address answer p)
+read_where : (T : Act → Type 0) (to : Destination) (s : Settings) (digest : List ℕ) (m after : ℕ) (c : List Exchange) (address : List ℕ) (answer : Answer) (p : Plan) → PlanShape digest answer p → LastAnswer T c address answer → ByResult Any (Blob T to s digest) m c after (read_by address answer p)
 read_where T to s digest m after c address answer (plan.Refuse e) shape last = shown T to s digest c after address answer (refusal.DigestError e) last shape
 read_where T to s digest m after c address answer plan.Judge shape last = shown T to s digest c after address answer _ last (status_cause (AskedDigest digest) address answer (not_200 answer.status shape))
 read_where T to s digest m after c address answer (plan.Pour given own) shape last = poured T to s digest m after c address answer (given_compared given answer.body) (compared own answer.body) (λ e is. given_refused digest address answer given e shape.0 is) (λ e is. own_refused digest address answer own e shape.1 shape.2 is) last
@@ -178,28 +178,28 @@ may_fail IntoMemory limit n (plan.Refuse e) is = absurd (cc is)
 may_fail IntoMemory limit n plan.Judge is = absurd (cc is)
 may_fail IntoMemory limit n (plan.Pour given own) is = absurd (cc is)
 
-blob_run : (T : Act → Type 0) (to : Destination) (s : Settings) (digest : List ℕ) (request : Request) → T (Sends request) → (k l : Memory) (m after o : ℕ) (c d : List Exchange) (last : Request) (reply : Reply) (r : Result (List ℕ) OciDistributionError) → Heard 10 request (blob_reading to s.max_body_bytes digest) m c after last reply → Runs (blob_reply digest last reply) k after d o l r → ByAnswer Any (Blob T to s digest) m (c ++ d) o r
+blob_run : (T : Act → Type 0) (to : Destination) (s : Settings) (digest : List ℕ) (request : Request) → T (Sends request) → (k l : AuthState) (m after o : ℕ) (c d : List Exchange) (last : Request) (reply : Reply) (r : Result (List ℕ) OciDistributionError) → Heard 10 request (blob_reading to s.max_body_bytes digest) m c after last reply → Runs (blob_reply digest last reply) k after d o l r → ByResult Any (Blob T to s digest) m (c ++ d) o r
 unfolding blob_reading
 blob_run T to s digest request own k l m after o c d last (Headed head) r h run =
     let b = h.replies.reply_is in
-    done_run (λ start d o r. ByAnswer Any (Blob T to s digest) m (c ++ d) o r) (unread_by (plan_of digest head)) k l after o d r
-    (subst (λ x. ByAnswer Any (Blob T to s digest) m x after (unread_by (plan_of digest head))) (sym (append-nil c)) (unread_where T to s digest m after c last.url (answer_of head b.0) (plan_of digest head) (plan_shape digest (answer_of head b.0)) (heard_answer T h own (answer_of head b.0) b.1 h.settles))) run
-blob_run T to s digest request own k l m after o c d last (Answered answer) r h run = done_run (λ start d o r. ByAnswer Any (Blob T to s digest) m (c ++ d) o r) (read_by last.url answer (plan_of digest (head_part answer))) k l after o d r
-    (subst (λ x. ByAnswer Any (Blob T to s digest) m x after (read_by last.url answer (plan_of digest (head_part answer)))) (sym (append-nil c)) (read_where T to s digest m after c last.url answer (plan_of digest (head_part answer)) (plan_shape digest answer) (heard_answer T h own answer h.replies.reply_is.1 h.settles))) run
-blob_run T to s digest request own k l m after o c d last Failed r h run = done_run (λ start d o r. ByAnswer Any (Blob T to s digest) m (c ++ d) o r) (Err refusal.TransportFault) k l after o d r (rw append-nil (heard_failed T h own)) run
-blob_run T to s digest request own k l m after o c d last TooLong r h run = done_run (λ start d o r. ByAnswer Any (Blob T to s digest) m (c ++ d) o r) (Err refusal.BodyTooLong) k l after o d r (rw append-nil (heard_long T h s.max_body_bytes own (λ n head is. limit_is to s.max_body_bytes n (plan_of digest head) is))) run
-blob_run T to s digest request own k l m after o c d last SinkFailed r h run = done_run (λ start d o r. ByAnswer Any (Blob T to s digest) m (c ++ d) o r) (Err refusal.SinkFault) k l after o d r (let b = h.replies.reply_is in may_fail to s.max_body_bytes b.1 (plan_of digest (head_part b.0)) b.3) run
+    done_run (λ start d o r. ByResult Any (Blob T to s digest) m (c ++ d) o r) (unread_by (plan_of digest head)) k l after o d r
+    (subst (λ x. ByResult Any (Blob T to s digest) m x after (unread_by (plan_of digest head))) (sym (append-nil c)) (unread_where T to s digest m after c last.url (answer_of head b.0) (plan_of digest head) (plan_shape digest (answer_of head b.0)) (heard_answer T h own (answer_of head b.0) b.1 h.settles))) run
+blob_run T to s digest request own k l m after o c d last (Answered answer) r h run = done_run (λ start d o r. ByResult Any (Blob T to s digest) m (c ++ d) o r) (read_by last.url answer (plan_of digest (head_part answer))) k l after o d r
+    (subst (λ x. ByResult Any (Blob T to s digest) m x after (read_by last.url answer (plan_of digest (head_part answer)))) (sym (append-nil c)) (read_where T to s digest m after c last.url answer (plan_of digest (head_part answer)) (plan_shape digest answer) (heard_answer T h own answer h.replies.reply_is.1 h.settles))) run
+blob_run T to s digest request own k l m after o c d last Failed r h run = done_run (λ start d o r. ByResult Any (Blob T to s digest) m (c ++ d) o r) (Err refusal.TransportFault) k l after o d r (rw append-nil (heard_failed T h own)) run
+blob_run T to s digest request own k l m after o c d last TooLong r h run = done_run (λ start d o r. ByResult Any (Blob T to s digest) m (c ++ d) o r) (Err refusal.BodyTooLong) k l after o d r (rw append-nil (heard_long T h s.max_body_bytes own (λ n head is. limit_is to s.max_body_bytes n (plan_of digest head) is))) run
+blob_run T to s digest request own k l m after o c d last SinkFailed r h run = done_run (λ start d o r. ByResult Any (Blob T to s digest) m (c ++ d) o r) (Err refusal.SinkFault) k l after o d r (let b = h.replies.reply_is in may_fail to s.max_body_bytes b.1 (plan_of digest (head_part b.0)) b.3) run
 
 -- after other exchanges
 pub blob_later : (T : Act → Type 0) (to : Destination) (s : Settings) (digest : List ℕ) (now : ℕ) (c d : List Exchange) (e : OciDistributionError) → LooseBlob T to s digest d now e → LooseBlob T to s digest (c ++ d) now e
 blob_later T to s digest now c d refusal.SinkFault h = h
 blob_later T to s digest now c d e h = cause_later T T (AnswerCause (AskedDigest digest)) (AnswerCause (AskedDigest digest)) s manifest_types now c d e (λ text h. h) (λ address answer h. h) h
 
-later_where : (T : Act → Type 0) (to : Destination) (s : Settings) (digest : List ℕ) (m start o : ℕ) (c d : List Exchange) (r : Result (List ℕ) OciDistributionError) → ByAnswer Any (Blob T to s digest) start d o r → ByAnswer Any (Blob T to s digest) m (c ++ d) o r
+later_where : (T : Act → Type 0) (to : Destination) (s : Settings) (digest : List ℕ) (m start o : ℕ) (c d : List Exchange) (r : Result (List ℕ) OciDistributionError) → ByResult Any (Blob T to s digest) start d o r → ByResult Any (Blob T to s digest) m (c ++ d) o r
 later_where T to s digest m start o c d (Ok x) h = tt
 later_where T to s digest m start o c d (Err e) h = blob_later T to s digest o c d e h
 
-early_where : (T : Act → Type 0) (to : Destination) (s : Settings) (digest : List ℕ) {A : Type 0} (P : ℕ → List Exchange → ℕ → A → Type 0) (m n : ℕ) (c : List Exchange) (r : Result A OciDistributionError) → ByAnswer P (λ m c n e. EarlyCause T e) m c n r → ByAnswer P (Blob T to s digest) m c n r
+early_where : (T : Act → Type 0) (to : Destination) (s : Settings) (digest : List ℕ) {A : Type 0} (P : ℕ → List Exchange → ℕ → A → Type 0) (m n : ℕ) (c : List Exchange) (r : Result A OciDistributionError) → ByResult P (λ m c n e. EarlyCause T e) m c n r → ByResult P (Blob T to s digest) m c n r
 early_where T to s digest P m n c (Ok a) h = h
 early_where T to s digest P m n c (Err e) h = blob_cause T to s digest c n e (early_cause T (AnswerCause (AskedDigest digest)) s manifest_types n c e h)
 
@@ -259,7 +259,7 @@ web_refused : (T : Act → Type 0) (to : Destination) (s : Settings) (digest : L
 web_refused T to s digest url (Ok request) early e is m = absurd (cc is)
 web_refused T to s digest url (Err x) early e is m = let same : x ≡ e = cc is in blob_cause T to s digest [] m e (early_cause T (AnswerCause (AskedDigest digest)) s manifest_types m [] e (subst (λ (x : OciDistributionError). EarlyCause T x) same early))
 
-place_refused : (T : Act → Type 0) (to : Destination) (s : Settings) (digest : List ℕ) (urls : List (List ℕ)) → ((text : List ℕ) → UnfitUrl urls text → T (Reads text)) → (p : Place) → OfUrls urls p → Unasked (ByAnswer Any (Blob T to s digest)) s p
+place_refused : (T : Act → Type 0) (to : Destination) (s : Settings) (digest : List ℕ) (urls : List (List ℕ)) → ((text : List ℕ) → UnfitUrl urls text → T (Reads text)) → (p : Place) → OfUrls urls p → Unasked (ByResult Any (Blob T to s digest)) s p
 unfolding asked_at
 place_refused T to s digest urls listed (Web url) has e is m = web_refused T to s digest url (request_of s Get url (Some manifest_types) None) (request_early T s Get url manifest_types None) e is m
 place_refused T to s digest urls listed (Unfit text) has e is m =
@@ -274,20 +274,20 @@ unfolding asked_at
 listed_own s urls (Web url) request has is = (has.0, has.1, url, has.2, (Get, manifest_types, asks_of s Get url (Some manifest_types) None request is))
 listed_own s urls (Unfit text) request has is = absurd (cc is)
 
-tried_causes : (T : Act → Type 0) (to : Destination) (s : Settings) (layer : Layer) → ((text : List ℕ) → UnfitUrl layer.urls text → T (Reads text)) → ((request : Request) → AsksListed s layer.urls request → T (Sends request)) → (request : Request) → T (Sends request) → Shows (ByAnswer Any (Blob T to s layer.digest)) (tried to s layer.digest (places_of layer.urls) request)
-tried_causes T to s layer listed others request own = tried_law (ByAnswer Any (Blob T to s layer.digest)) (λ request. T (Sends request)) to s layer.digest (λ request own. blob_run T to s layer.digest request own) (λ m start n c d r h. later_where T to s layer.digest m start n c d r h) (places_of layer.urls)
+tried_causes : (T : Act → Type 0) (to : Destination) (s : Settings) (layer : Layer) → ((text : List ℕ) → UnfitUrl layer.urls text → T (Reads text)) → ((request : Request) → AsksListed s layer.urls request → T (Sends request)) → (request : Request) → T (Sends request) → EveryRun (ByResult Any (Blob T to s layer.digest)) (tried to s layer.digest (places_of layer.urls) request)
+tried_causes T to s layer listed others request own = tried_law (ByResult Any (Blob T to s layer.digest)) (λ request. T (Sends request)) to s layer.digest (λ request own. blob_run T to s layer.digest request own) (λ m start n c d r h. later_where T to s layer.digest m start n c d r h) (places_of layer.urls)
     (each_more (OfUrls layer.urls) (Gives (λ request. T (Sends request)) s) (λ p has request is. others request (listed_own s layer.urls p request has is)) (places_of layer.urls) (places_are layer.urls))
-    (each_more (OfUrls layer.urls) (Unasked (ByAnswer Any (Blob T to s layer.digest)) s) (place_refused T to s layer.digest layer.urls listed) (places_of layer.urls) (places_are layer.urls)) request own
+    (each_more (OfUrls layer.urls) (Unasked (ByResult Any (Blob T to s layer.digest)) s) (place_refused T to s layer.digest layer.urls listed) (places_of layer.urls) (places_are layer.urls)) request own
 
 -- the prepared request is for the blob's address
 pub blob_own : (s : Settings) (image : Reference) (layer : Layer) (url : Parts) (c : List Exchange) (request : Request) → url_read (blob_text s image layer.digest) ≡ Ok url → Prepared s image Pull Get url manifest_types c request → BlobUrl s image layer (Sends request)
 blob_own s image layer url c request is p = inl (url, url_is (blob_text s image layer.digest) (request_url (blob_text s image layer.digest)) url is, asks_at s image Pull Get url manifest_types c request p)
 
 -- each refusal has its cause
-pub blob_causes : (to : Destination) (s : Context) (image : Reference) (layer : Layer) → Shows (ByAnswer (λ m c n bytes. Unit {0}) (λ m c n e. LooseBlob (BlobUrl s.settings image layer) to s.settings layer.digest c n e)) (blob_to to s image layer)
+pub blob_causes : (to : Destination) (s : Context) (image : Reference) (layer : Layer) → EveryRun (ByResult (λ m c n bytes. Unit {0}) (λ m c n e. LooseBlob (BlobUrl s.settings image layer) to s.settings layer.digest c n e)) (blob_to to s image layer)
 unfolding blob_to
-blob_causes to s image layer = Shows-step (ByAnswer Any (Blob (BlobUrl s.settings image layer) to s.settings layer.digest)) (url_read (blob_text s.settings image layer.digest)) (λ url. prepared s image Pull Get url manifest_types >>= λ request. tried to s.settings layer.digest (places_of layer.urls) request)
-    (λ url is. Shows-each (λ m c n request. Prepared s.settings image Pull Get url manifest_types c request) Any (Blob (BlobUrl s.settings image layer) to s.settings layer.digest) (prepared s image Pull Get url manifest_types) (λ request. tried to s.settings layer.digest (places_of layer.urls) request)
-    (Shows-more (ByAnswer (λ m c n request. Prepared s.settings image Pull Get url manifest_types c request) (λ m c n e. EarlyCause (BlobUrl s.settings image layer) e)) (ByAnswer (λ m c n request. Prepared s.settings image Pull Get url manifest_types c request) (Blob (BlobUrl s.settings image layer) to s.settings layer.digest)) (prepared s image Pull Get url manifest_types) (prepared_causes (BlobUrl s.settings image layer) s image Pull Get url manifest_types (inl refl)) (early_where (BlobUrl s.settings image layer) to s.settings layer.digest (λ m c n request. Prepared s.settings image Pull Get url manifest_types c request)))
-    (λ m n c request p. Shows-more (ByAnswer Any (Blob (BlobUrl s.settings image layer) to s.settings layer.digest)) (λ start d o r. ByAnswer Any (Blob (BlobUrl s.settings image layer) to s.settings layer.digest) m (c ++ d) o r) (tried to s.settings layer.digest (places_of layer.urls) request) (tried_causes (BlobUrl s.settings image layer) to s.settings layer (λ text h. inr (inr h)) (λ request h. inr h) request (blob_own s.settings image layer url c request is p)) (λ start o d r h. later_where (BlobUrl s.settings image layer) to s.settings layer.digest m start o c d r h)))
+blob_causes to s image layer = EveryRun-step (ByResult Any (Blob (BlobUrl s.settings image layer) to s.settings layer.digest)) (url_read (blob_text s.settings image layer.digest)) (λ url. prepared s image Pull Get url manifest_types >>= λ request. tried to s.settings layer.digest (places_of layer.urls) request)
+    (λ url is. EveryRun-each (λ m c n request. Prepared s.settings image Pull Get url manifest_types c request) Any (Blob (BlobUrl s.settings image layer) to s.settings layer.digest) (prepared s image Pull Get url manifest_types) (λ request. tried to s.settings layer.digest (places_of layer.urls) request)
+    (EveryRun-more (ByResult (λ m c n request. Prepared s.settings image Pull Get url manifest_types c request) (λ m c n e. EarlyCause (BlobUrl s.settings image layer) e)) (ByResult (λ m c n request. Prepared s.settings image Pull Get url manifest_types c request) (Blob (BlobUrl s.settings image layer) to s.settings layer.digest)) (prepared s image Pull Get url manifest_types) (prepared_causes (BlobUrl s.settings image layer) s image Pull Get url manifest_types (inl refl)) (early_where (BlobUrl s.settings image layer) to s.settings layer.digest (λ m c n request. Prepared s.settings image Pull Get url manifest_types c request)))
+    (λ m n c request p. EveryRun-more (ByResult Any (Blob (BlobUrl s.settings image layer) to s.settings layer.digest)) (λ start d o r. ByResult Any (Blob (BlobUrl s.settings image layer) to s.settings layer.digest) m (c ++ d) o r) (tried to s.settings layer.digest (places_of layer.urls) request) (tried_causes (BlobUrl s.settings image layer) to s.settings layer (λ text h. inr (inr h)) (λ request h. inr h) request (blob_own s.settings image layer url c request is p)) (λ start o d r h. later_where (BlobUrl s.settings image layer) to s.settings layer.digest m start o c d r h)))
     (λ e is m. blob_cause (BlobUrl s.settings image layer) to s.settings layer.digest [] m e (url_cause (BlobUrl s.settings image layer) (AnswerCause (AskedDigest layer.digest)) s.settings manifest_types (blob_text s.settings image layer.digest) m [] e (inr (inl refl)) is))

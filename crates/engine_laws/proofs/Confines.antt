@@ -15,7 +15,7 @@ use Rattle.oci_names.specs.Reference.{repository_of, resolved_registry}
 use Rattle.oci_auth.specs.Cache.{key_of, token_at}
 use Rattle.oci_auth.specs.Kept.{Key, under}
 use Rattle.oci_auth.specs.declared.auth.RegistryAuth.{RegistryAuth}
-use Rattle.oci_auth.specs.declared.memory.Memory.{Memory}
+use Rattle.oci_auth.specs.declared.auth_state.AuthState.{AuthState}
 use Rattle.oci_auth.specs.declared.token_type.RegistryOperation.TheVariants.{Pull}
 use Rattle.oci_auth.specs.declared.token_type.RegistryTokenType.{RegistryTokenType}
 use Rattle.oci_protocol.specs.Proto.{Proto, Done, Ask, Recall, Keep, Consult, bind, unless_refused, ◌>>=◌}
@@ -49,65 +49,65 @@ Safe-held P I Q (Consult next) k seen lasts i h = λ said. Safe-held P I Q (next
 
 -- From any beginning, the part's requests contain only what they may, and the client state keeps its invariant. The
 -- client state has credentials and tokens, which `of` returns, and possibly more.
-pub record ConfinesBy {K A : Type 0} (of : K → Memory) (x : Entry) (s : Settings) (p : Proto K A) : Type 0 where
+pub record ConfinesBy {K A : Type 0} (of : K → AuthState) (x : Entry) (s : Settings) (p : Proto K A) : Type 0 where
   pub safe : (l : K) (c : List Exchange) → Keeps x (of l) c → Safe (λ l. Carries x s (of l)) (λ l. Keeps x (of l)) (λ l c (a : A). Keeps x (of l) c) l c p
 
 -- a part without further client state
-abbrev pub Alone : Memory → Memory
+abbrev pub Alone : AuthState → AuthState
 Alone l = l
 
 -- a part with further client state
-abbrev pub Beside : {C : Type 0} → Memory × C → Memory
+abbrev pub Beside : {C : Type 0} → AuthState × C → AuthState
 Beside l = l.0
 
-pub confines_done : {K A : Type 0} (of : K → Memory) (x : Entry) (s : Settings) (a : A) → ConfinesBy of x s (Done a)
+pub confines_done : {K A : Type 0} (of : K → AuthState) (x : Entry) (s : Settings) (a : A) → ConfinesBy of x s (Done a)
 unfolding Safe
 confines_done {K} {A} of x s a = record { safe = λ l c keeps. held l c keeps } where
   held : (l : K) (c : List Exchange) → Keeps x (of l) c → Safe (λ l. Carries x s (of l)) (λ l. Keeps x (of l)) (λ l c (a : A). Keeps x (of l) c) l c (Done a)
   held l c keeps = keeps
 
-pub confines_bind : {K A B : Type 0} (of : K → Memory) (x : Entry) (s : Settings) (p : Proto K A) (f : A → Proto K B) → ConfinesBy of x s p → ((a : A) → ConfinesBy of x s (f a)) → ConfinesBy of x s (bind p f)
+pub confines_bind : {K A B : Type 0} (of : K → AuthState) (x : Entry) (s : Settings) (p : Proto K A) (f : A → Proto K B) → ConfinesBy of x s p → ((a : A) → ConfinesBy of x s (f a)) → ConfinesBy of x s (bind p f)
 confines_bind {K} {A} {B} of x s p f h each = record { safe = λ l c keeps. Safe-bind (λ l. Carries x s (of l)) (λ l. Keeps x (of l)) (λ l c (a : A). Keeps x (of l) c) (λ l c (b : B). Keeps x (of l) c) p f l c (h.safe l c keeps) (λ l c a keeps. (each a).safe l c keeps) }
 
-confines_unless : {K A B E : Type 0} (of : K → Memory) (x : Entry) (s : Settings) (f : A → Proto K (Result B E)) → ((a : A) → ConfinesBy of x s (f a)) → (r : Result A E) → ConfinesBy of x s (unless_refused f r)
+confines_unless : {K A B E : Type 0} (of : K → AuthState) (x : Entry) (s : Settings) (f : A → Proto K (Result B E)) → ((a : A) → ConfinesBy of x s (f a)) → (r : Result A E) → ConfinesBy of x s (unless_refused f r)
 confines_unless of x s f each (Ok a) = each a
 confines_unless of x s f each (Err e) = confines_done of x s (Err e)
 
 -- a step, and then what it leads to
-pub confines_next : {K A B E : Type 0} (of : K → Memory) (x : Entry) (s : Settings) (p : Proto K (Result A E)) (f : A → Proto K (Result B E)) → ConfinesBy of x s p → ((a : A) → ConfinesBy of x s (f a)) → ConfinesBy of x s (p >>= f)
+pub confines_next : {K A B E : Type 0} (of : K → AuthState) (x : Entry) (s : Settings) (p : Proto K (Result A E)) (f : A → Proto K (Result B E)) → ConfinesBy of x s p → ((a : A) → ConfinesBy of x s (f a)) → ConfinesBy of x s (p >>= f)
 confines_next of x s p f h each = confines_bind of x s p (unless_refused f) h (confines_unless of x s f each)
 
 -- the client state is read
-pub confines_recall : {K A : Type 0} (of : K → Memory) (x : Entry) (s : Settings) (next : K → Proto K A) → ((k : K) → ConfinesBy of x s (next k)) → ConfinesBy of x s (Recall next)
+pub confines_recall : {K A : Type 0} (of : K → AuthState) (x : Entry) (s : Settings) (next : K → Proto K A) → ((k : K) → ConfinesBy of x s (next k)) → ConfinesBy of x s (Recall next)
 unfolding Safe
 confines_recall {K} {A} of x s next each = record { safe = λ l c keeps. looked l c ((each l).safe l c keeps) } where
   looked : (l : K) (c : List Exchange) → Safe (λ l. Carries x s (of l)) (λ l. Keeps x (of l)) (λ l c (a : A). Keeps x (of l) c) l c (next l) → Safe (λ l. Carries x s (of l)) (λ l. Keeps x (of l)) (λ l c (a : A). Keeps x (of l) c) l c (Recall next)
   looked l c h = h
 
 -- the client state is replaced, with the same credentials and tokens
-pub confines_kept : {C A : Type 0} (x : Entry) (s : Settings) (more : C → C) (rest : Proto (Memory × C) A) → ConfinesBy Beside x s rest → ConfinesBy Beside x s (Recall (λ k. Keep (k.0, more k.1) rest))
+pub confines_kept : {C A : Type 0} (x : Entry) (s : Settings) (more : C → C) (rest : Proto (AuthState × C) A) → ConfinesBy Beside x s rest → ConfinesBy Beside x s (Recall (λ k. Keep (k.0, more k.1) rest))
 unfolding Safe
 confines_kept {C} {A} x s more rest h = record { safe = λ l c keeps. stays l c keeps (h.safe (l.0, more l.1) c keeps) } where
-  stays : (l : Memory × C) (c : List Exchange) → Keeps x l.0 c → Safe (λ l. Carries x s (Beside l)) (λ l. Keeps x (Beside l)) (λ l c (a : A). Keeps x (Beside l) c) (l.0, more l.1) c rest → Safe (λ l. Carries x s (Beside l)) (λ l. Keeps x (Beside l)) (λ l c (a : A). Keeps x (Beside l) c) l c (Recall (λ k. Keep (k.0, more k.1) rest))
+  stays : (l : AuthState × C) (c : List Exchange) → Keeps x l.0 c → Safe (λ l. Carries x s (Beside l)) (λ l. Keeps x (Beside l)) (λ l c (a : A). Keeps x (Beside l) c) (l.0, more l.1) c rest → Safe (λ l. Carries x s (Beside l)) (λ l. Keeps x (Beside l)) (λ l c (a : A). Keeps x (Beside l) c) l c (Recall (λ k. Keep (k.0, more k.1) rest))
   stays l c keeps h = (keeps, h)
 
 -- a part without further client state, with any result
-pub confines_by : {A : Type 0} (x : Entry) (s : Settings) (Q : Memory → List Exchange → A → Type 0) (p : Proto Memory A) → ((l : Memory) (c : List Exchange) → Keeps x l c → Safe (Carries x s) (Keeps x) Q l c p) → ConfinesBy Alone x s p
+pub confines_by : {A : Type 0} (x : Entry) (s : Settings) (Q : AuthState → List Exchange → A → Type 0) (p : Proto AuthState A) → ((l : AuthState) (c : List Exchange) → Keeps x l c → Safe (Carries x s) (Keeps x) Q l c p) → ConfinesBy Alone x s p
 confines_by x s Q p h = record { safe = λ l c keeps. Safe-held (Carries x s) (Keeps x) Q p l c (keeps_more x) keeps (h l c keeps) }
 
 -- with further client state, which is unchanged
-pub confines_lifted : {C A : Type 0} (x : Entry) (s : Settings) (p : Proto Memory A) → ConfinesBy Alone x s p → ConfinesBy {K = Memory × C} Beside x s (lifted p)
+pub confines_lifted : {C A : Type 0} (x : Entry) (s : Settings) (p : Proto AuthState A) → ConfinesBy Alone x s p → ConfinesBy {K = AuthState × C} Beside x s (lifted p)
 confines_lifted {C} {A} x s p h = record { safe = λ l c keeps. Safe-lifted (Carries x s) (Keeps x) (λ l c (a : A). Keeps x l c) p l.0 l.1 c (h.safe l.0 c keeps) }
 
 -- the same for a call
-pub confines_call : {K A E : Type 0} {of_memory : E → Bool} (of : K → Memory) (x : Entry) (s : Settings) {p : Proto K (Result A E)} {old new : Link} {k l : K} {r : Result A E} → of k ≡ x.kept → ConfinesBy of x s p → Meets of_memory p old new k l r → Told (Within x s (of l)) old new
+pub confines_call : {K A E : Type 0} {of_memory : E → Bool} (of : K → AuthState) (x : Entry) (s : Settings) {p : Proto K (Result A E)} {old new : Link} {k l : K} {r : Result A E} → of k ≡ x.kept → ConfinesBy of x s p → Meets of_memory p old new k l r → Told (Within x s (of l)) old new
 confines_call {K} {A} {E} of x s {k = k} {l = l} begins h met =
     let first : Keeps x (of k) [] = subst (λ m. Keeps x m []) (sym begins) (keeps_first x) in
     Meets-within (Confined x s) (λ l. Keeps x (of l)) (λ l c (r : Result A E). Keeps x (of l) c) (Within x s (of l)) (λ l. keeps_more x (of l)) first (λ c confined keeps. record { confined = confined; kept = keeps.added; stored = keeps.stored }) (h.safe k [] first) met
 
 -- ---- another reference of the same repository
 
-module _ (k : Memory) (s : Context) (image other : Reference) (handed : Option RegistryAuth) (registry : resolved_registry other ≡ resolved_registry image) (repository : repository_of other ≡ repository_of image) where
+module _ (k : AuthState) (s : Context) (image other : Reference) (handed : Option RegistryAuth) (registry : resolved_registry other ≡ resolved_registry image) (repository : repository_of other ≡ repository_of image) where
   abbrev X : Entry
   X = pulling k s image handed
 
@@ -163,7 +163,7 @@ module _ (k : Memory) (s : Context) (image other : Reference) (handed : Option R
     goes (inl g) = inl (to_registry t request g)
     goes (inr g) = inr (to_realm t seen request g)
 
-  carries_same : (t : Settings) (l : Memory) (c : List Exchange) (request : Request) → Carries Y t l c request → Carries X t l c request
+  carries_same : (t : Settings) (l : AuthState) (c : List Exchange) (request : Request) → Carries Y t l c request → Carries X t l c request
   carries_same t l c request h = each_more (MayCarry Y t c request) (MayCarry X t c request) (values_of (codes "authorization") request.headers) (may_same t c request) h
 
   added_same : (c : List Exchange) (key : Key) (moment : ℕ) (token : RegistryTokenType) → KeptOrAdded Y c key moment token → KeptOrAdded X c key moment token
@@ -174,7 +174,7 @@ module _ (k : Memory) (s : Context) (image other : Reference) (handed : Option R
   stored_same key a (inl h) = inl h
   stored_same key a (inr h) = inr (h.0 ∙ registry, h.1)
 
-  pub keeps_same : (l : Memory) (c : List Exchange) → Keeps Y l c → Keeps X l c
+  pub keeps_same : (l : AuthState) (c : List Exchange) → Keeps Y l c → Keeps X l c
   keeps_same l c h = record {
     credentials = λ a is. auth_same a (h.credentials a (subst (λ r. map.get l.credentials r ≡ Some a) (sym registry) is));
     tokens = λ token is. held_same c token (h.tokens token (subst (λ key. token_at l.tokens key s.moment ≡ Some token) (sym key_same) is));
@@ -183,7 +183,7 @@ module _ (k : Memory) (s : Context) (image other : Reference) (handed : Option R
   }
 
 -- what may be requested for one may be requested for the other
-pub confines_same : {K A : Type 0} (of : K → Memory) (k : Memory) (s : Context) (image other : Reference) (handed : Option RegistryAuth) → resolved_registry other ≡ resolved_registry image → repository_of other ≡ repository_of image → (t : Settings) (p : Proto K A)
+pub confines_same : {K A : Type 0} (of : K → AuthState) (k : AuthState) (s : Context) (image other : Reference) (handed : Option RegistryAuth) → resolved_registry other ≡ resolved_registry image → repository_of other ≡ repository_of image → (t : Settings) (p : Proto K A)
     → ConfinesBy of (pulling k s other handed) t p → ConfinesBy of (pulling k s image handed) t p
 confines_same {K} {A} of k s image other handed registry repository t p h = let x = pulling k s image handed in let y = pulling k s other handed in record {
   safe = λ l c keeps. Safe-map (λ l. Carries y t (of l)) (λ l. Carries x t (of l)) (λ l. Keeps y (of l)) (λ l. Keeps x (of l)) (λ l c (a : A). Keeps y (of l) c) (λ l c (a : A). Keeps x (of l) c) p (λ l. carries_same k s image other handed registry repository t (of l)) (λ l. keeps_same k s image other handed registry repository (of l)) (λ l c a h. keeps_same k s image other handed registry repository (of l) c h) l c

@@ -18,14 +18,14 @@ use Rattle.oci_digests.specs.declared.digester.Algorithm.TheVariants.{Sha256}
 use Rattle.oci_digests.specs.declared.error.DigestError.{DigestError}
 use Rattle.oci_digests.proofs.ExactChecks.{validates}
 use Rattle.oci_auth.specs.declared.auth.RegistryAuth.{RegistryAuth}
-use Rattle.oci_auth.specs.declared.memory.Memory.{Memory}
+use Rattle.oci_auth.specs.declared.auth_state.AuthState.{AuthState}
 use Rattle.oci_auth.specs.declared.token_type.RegistryOperation.{RegistryOperation}
 use Rattle.oci_auth.specs.declared.token_type.RegistryOperation.TheVariants.{Pull}
 use Rattle.oci_protocol.specs.Proto.{Reading, Reply, Headed, Answered, Failed, TooLong, SinkFailed, read_within, Done, ◌>>=◌}
 use Rattle.oci_protocol.specs.Runs.{head_part, Runs}
 use Rattle.oci_protocol.specs.Follow.{Trail, IsFinal}
-use Rattle.oci_protocol.specs.Shows.{Shows, WhereOk, Heard}
-use Rattle.oci_protocol.proofs.RunFacts.{done_run, Shows-more, Shows-next, Shows-step, Shows-last, Shows-follow}
+use Rattle.oci_protocol.specs.EveryRun.{EveryRun, WhenOk, Heard}
+use Rattle.oci_protocol.proofs.RunFacts.{done_run, EveryRun-more, EveryRun-next, EveryRun-step, EveryRun-last, EveryRun-follow}
 use Rattle.engine_answers.specs.declared.answers.Got.{Got}
 use Rattle.engine_terms.specs.Contexts.{Context}
 use Rattle.engine_terms.specs.declared.settings.Settings.{Settings}
@@ -140,16 +140,16 @@ unfolding read_within
 within_read limit head is = cc
 
 -- the last response results from the request
-whole_run : (request : Request) (limit : ℕ) (k l : Memory) (m after o : ℕ) (c d : List Exchange) (last : Request) (reply : Reply) (r : Result Got OciDistributionError) → Heard 10 request (read_within limit) m c after last reply → Runs (whole_reply last reply) k after d o l r → WhereOk (λ m c n got. LedTo request c got.answer) m (c ++ d) o r
+whole_run : (request : Request) (limit : ℕ) (k l : AuthState) (m after o : ℕ) (c d : List Exchange) (last : Request) (reply : Reply) (r : Result Got OciDistributionError) → Heard 10 request (read_within limit) m c after last reply → Runs (whole_reply last reply) k after d o l r → WhenOk (λ m c n got. LedTo request c got.answer) m (c ++ d) o r
 whole_run request limit k l m after o c d last (Headed head) r h run = absurd (within_read limit head h.replies.reply_is.2)
-whole_run request limit k l m after o c d last (Answered answer) r h run = done_run (λ s d o r. WhereOk (λ m c n got. LedTo request c got.answer) m (c ++ d) o r) (Ok (record { url = last.url; answer = answer })) k l after o d r (rw append-nil (led_of h answer h.replies.reply_is.1 h.settles)) run
-whole_run request limit k l m after o c d last Failed r h run = done_run (λ s d o r. WhereOk (λ m c n got. LedTo request c got.answer) m (c ++ d) o r) (Err refusal.TransportFault) k l after o d r tt run
-whole_run request limit k l m after o c d last TooLong r h run = done_run (λ s d o r. WhereOk (λ m c n got. LedTo request c got.answer) m (c ++ d) o r) (Err refusal.BodyTooLong) k l after o d r tt run
-whole_run request limit k l m after o c d last SinkFailed r h run = done_run (λ s d o r. WhereOk (λ m c n got. LedTo request c got.answer) m (c ++ d) o r) (Err refusal.SinkFault) k l after o d r tt run
+whole_run request limit k l m after o c d last (Answered answer) r h run = done_run (λ s d o r. WhenOk (λ m c n got. LedTo request c got.answer) m (c ++ d) o r) (Ok (record { url = last.url; answer = answer })) k l after o d r (rw append-nil (led_of h answer h.replies.reply_is.1 h.settles)) run
+whole_run request limit k l m after o c d last Failed r h run = done_run (λ s d o r. WhenOk (λ m c n got. LedTo request c got.answer) m (c ++ d) o r) (Err refusal.TransportFault) k l after o d r tt run
+whole_run request limit k l m after o c d last TooLong r h run = done_run (λ s d o r. WhenOk (λ m c n got. LedTo request c got.answer) m (c ++ d) o r) (Err refusal.BodyTooLong) k l after o d r tt run
+whole_run request limit k l m after o c d last SinkFailed r h run = done_run (λ s d o r. WhenOk (λ m c n got. LedTo request c got.answer) m (c ++ d) o r) (Err refusal.SinkFault) k l after o d r tt run
 
-whole_shows : (request : Request) (limit : ℕ) → Shows (WhereOk (λ m c n got. LedTo request c got.answer)) (whole 10 request limit)
+whole_shows : (request : Request) (limit : ℕ) → EveryRun (WhenOk (λ m c n got. LedTo request c got.answer)) (whole 10 request limit)
 unfolding whole
-whole_shows request limit = Shows-follow (WhereOk (λ m c n got. LedTo request c got.answer)) 10 request (read_within limit) whole_reply (whole_run request limit)
+whole_shows request limit = EveryRun-follow (WhenOk (λ m c n got. LedTo request c got.answer)) 10 request (read_within limit) whole_reply (whole_run request limit)
 
 -- the request led to a response that was accepted
 record Read (image : Reference) (request : Request) (c : List Exchange) (found : List ℕ × List ℕ) : Type 0 where
@@ -157,9 +157,9 @@ record Read (image : Reference) (request : Request) (c : List Exchange) (found :
   led : LedTo request c answer
   validly : Validly image answer found
 
-read_shows : (image : Reference) (request : Request) (limit : ℕ) → Shows (WhereOk (λ m c n found. Read image request c found)) (whole 10 request limit >>= λ got. Done (document_in image got))
-read_shows image request limit = Shows-next (λ m c n got. LedTo request c got.answer) (λ m c n found. Read image request c found) (whole 10 request limit) (λ got. Done (document_in image got)) (whole_shows request limit)
-    (λ m n c got led. Shows-last (λ s d o found. Read image request (c ++ d) found) (λ s d o e. Unit {0}) (document_in image got) (λ found is o. rw append-nil (record { answer = got.answer; led = led; validly = validly_of image got found is })) (λ e is o. tt))
+read_shows : (image : Reference) (request : Request) (limit : ℕ) → EveryRun (WhenOk (λ m c n found. Read image request c found)) (whole 10 request limit >>= λ got. Done (document_in image got))
+read_shows image request limit = EveryRun-next (λ m c n got. LedTo request c got.answer) (λ m c n found. Read image request c found) (whole 10 request limit) (λ got. Done (document_in image got)) (whole_shows request limit)
+    (λ m n c got led. EveryRun-last (λ s d o found. Read image request (c ++ d) found) (λ s d o e. Unit {0}) (document_in image got) (λ found is o. rw append-nil (record { answer = got.answer; led = led; validly = validly_of image got found is })) (λ e is o. tt))
 
 -- the first GET for the address led to the document
 pub record Found (s : Settings) (image : Reference) (url : Parts) (types : List ℕ) (c : List Exchange) (found : List ℕ × List ℕ) : Type 0 where
@@ -172,14 +172,14 @@ found_more s image url types c d request found p r = record {
   validly = r.validly;
 }
 
-found_where : (s : Settings) (image : Reference) (url : Parts) (types : List ℕ) (c : List Exchange) (request : Request) → Prepared s image Pull Get url types c request → (m start n : ℕ) (d : List Exchange) (r : Result (List ℕ × List ℕ) OciDistributionError) → WhereOk (λ m c n found. Read image request c found) start d n r → WhereOk (λ m c n found. Found s image url types c found) m (c ++ d) n r
+found_where : (s : Settings) (image : Reference) (url : Parts) (types : List ℕ) (c : List Exchange) (request : Request) → Prepared s image Pull Get url types c request → (m start n : ℕ) (d : List Exchange) (r : Result (List ℕ × List ℕ) OciDistributionError) → WhenOk (λ m c n found. Read image request c found) start d n r → WhenOk (λ m c n found. Found s image url types c found) m (c ++ d) n r
 found_where s image url types c request p m start n d (Ok found) r = found_more s image url types c d request found p r
 found_where s image url types c request p m start n d (Err e) r = tt
 
-pub document_shows : (s : Context) (image : Reference) (url : Parts) (types : List ℕ) → Shows (WhereOk (λ m c n found. Found s.settings image url types c found)) (document s image url types)
+pub document_shows : (s : Context) (image : Reference) (url : Parts) (types : List ℕ) → EveryRun (WhenOk (λ m c n found. Found s.settings image url types c found)) (document s image url types)
 unfolding document
-document_shows s image url types = Shows-next (λ m c n request. Prepared s.settings image Pull Get url types c request) (λ m c n found. Found s.settings image url types c found) (prepared s image Pull Get url types) (λ request. whole 10 request s.settings.max_body_bytes >>= λ got. Done (document_in image got)) (prepared_shows s image Pull Get url types)
-    (λ m n c request p. Shows-more (WhereOk (λ m c n found. Read image request c found)) (λ start d o r. WhereOk (λ m c n found. Found s.settings image url types c found) m (c ++ d) o r) (whole 10 request s.settings.max_body_bytes >>= λ got. Done (document_in image got)) (read_shows image request s.settings.max_body_bytes) (λ start o d r h. found_where s.settings image url types c request p m start o d r h))
+document_shows s image url types = EveryRun-next (λ m c n request. Prepared s.settings image Pull Get url types c request) (λ m c n found. Found s.settings image url types c found) (prepared s image Pull Get url types) (λ request. whole 10 request s.settings.max_body_bytes >>= λ got. Done (document_in image got)) (prepared_shows s image Pull Get url types)
+    (λ m n c request p. EveryRun-more (WhenOk (λ m c n found. Read image request c found)) (λ start d o r. WhenOk (λ m c n found. Found s.settings image url types c found) m (c ++ d) o r) (whole 10 request s.settings.max_body_bytes >>= λ got. Done (document_in image got)) (read_shows image request s.settings.max_body_bytes) (λ start o d r h. found_where s.settings image url types c request p m start o d r h))
 
 document_of : {s : Settings} {image : Reference} {url : Parts} {types : List ℕ} {c : List Exchange} {found : List ℕ × List ℕ} → Found s image url types c found → Document image c found.0 found.1
 document_of {image = image} {c = c} {found = found} f =
@@ -198,18 +198,18 @@ url_is text None url is = absurd (cc is)
 document_later : {image : Reference} (c : List Exchange) {d : List Exchange} {bytes digest : List ℕ} → Document image d bytes digest → Document image (c ++ d) bytes digest
 document_later c h = record { body = body_after c h.body; names = h.names; named = h.named }
 
-later_where : (s : Settings) (image : Reference) (url : Parts) (types : List ℕ) (c : List Exchange) (m start n : ℕ) (d : List Exchange) (r : Result (List ℕ × List ℕ) OciDistributionError) → WhereOk (λ m c n found. Found s image url types c found) start d n r → WhereOk (λ m c n found. Document image c found.0 found.1) m (c ++ d) n r
+later_where : (s : Settings) (image : Reference) (url : Parts) (types : List ℕ) (c : List Exchange) (m start n : ℕ) (d : List Exchange) (r : Result (List ℕ × List ℕ) OciDistributionError) → WhenOk (λ m c n found. Found s image url types c found) start d n r → WhenOk (λ m c n found. Document image c found.0 found.1) m (c ++ d) n r
 later_where s image url types c m start n d (Ok found) f = document_later c (document_of f)
 later_where s image url types c m start n d (Err e) f = tt
 
 -- the bytes are those of a response, and the digest names them
-pub raw_shows : (s : Context) (image : Reference) (a : RegistryAuth) (types : List ℕ) → Shows (WhereOk (λ m c n found. Document image c found.0 found.1)) (pull_manifest_raw s image a types)
+pub raw_shows : (s : Context) (image : Reference) (a : RegistryAuth) (types : List ℕ) → EveryRun (WhenOk (λ m c n found. Document image c found.0 found.1)) (pull_manifest_raw s image a types)
 unfolding pull_manifest_raw manifest_document
-raw_shows s image a types = Shows-next (λ m c n u. Unit {0}) (λ m c n found. Document image c found.0 found.1) (store image a) (λ u. Done (url_read (manifest_text s.settings image)) >>= λ url. document s image url types)
-    (Shows-more Silent (WhereOk (λ m c n u. Unit {0})) (store image a) (silent_store image a) (λ m n c r h. any_where m n c r))
-    (λ m n c u h. Shows-step (λ start d o r. WhereOk (λ m c n found. Document image c found.0 found.1) m (c ++ d) o r) (url_read (manifest_text s.settings image)) (λ url. document s image url types)
-    (λ url is. Shows-more (WhereOk (λ m c n found. Found s.settings image url types c found)) (λ start d o r. WhereOk (λ m c n found. Document image c found.0 found.1) m (c ++ d) o r) (document s image url types) (document_shows s image url types) (λ start o d r f. later_where s.settings image url types c m start o d r f))
+raw_shows s image a types = EveryRun-next (λ m c n u. Unit {0}) (λ m c n found. Document image c found.0 found.1) (store image a) (λ u. Done (url_read (manifest_text s.settings image)) >>= λ url. document s image url types)
+    (EveryRun-more Silent (WhenOk (λ m c n u. Unit {0})) (store image a) (silent_store image a) (λ m n c r h. any_where m n c r))
+    (λ m n c u h. EveryRun-step (λ start d o r. WhenOk (λ m c n found. Document image c found.0 found.1) m (c ++ d) o r) (url_read (manifest_text s.settings image)) (λ url. document s image url types)
+    (λ url is. EveryRun-more (WhenOk (λ m c n found. Found s.settings image url types c found)) (λ start d o r. WhenOk (λ m c n found. Document image c found.0 found.1) m (c ++ d) o r) (document s image url types) (document_shows s image url types) (λ start o d r f. later_where s.settings image url types c m start o d r f))
     (λ e is o. tt)) where
-      any_where : {A E : Type 0} (m n : ℕ) (c : List Exchange) (r : Result A E) → WhereOk (λ m c n (u : A). Unit {0}) m c n r
+      any_where : {A E : Type 0} (m n : ℕ) (c : List Exchange) (r : Result A E) → WhenOk (λ m c n (u : A). Unit {0}) m c n r
       any_where m n c (Ok u) = tt
       any_where m n c (Err e) = tt

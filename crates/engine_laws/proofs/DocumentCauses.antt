@@ -17,14 +17,14 @@ use Rattle.oci_digests.specs.Checks.{header_digest as digest_in, validated}
 use Rattle.oci_digests.specs.declared.error.DigestError.{DigestError}
 use Rattle.oci_errors.specs.declared.envelope.OciEnvelope.{OciEnvelope}
 use Rattle.oci_auth.specs.declared.auth.RegistryAuth.{RegistryAuth}
-use Rattle.oci_auth.specs.declared.memory.Memory.{Memory}
+use Rattle.oci_auth.specs.declared.auth_state.AuthState.{AuthState}
 use Rattle.oci_auth.specs.declared.token_type.RegistryOperation.{RegistryOperation}
 use Rattle.oci_auth.specs.declared.token_type.RegistryOperation.TheVariants.{Pull}
 use Rattle.oci_protocol.specs.Proto.{Reading, Unread as NotRead, Piped, limit_of, Reply, Headed, Answered, Failed, TooLong, SinkFailed, read_within, Done, ◌>>=◌}
 use Rattle.oci_protocol.specs.Runs.{head_part, Runs}
 use Rattle.oci_protocol.specs.Follow.{Trail, IsFinal}
-use Rattle.oci_protocol.specs.Shows.{Shows, ByAnswer, Heard}
-use Rattle.oci_protocol.proofs.RunFacts.{done_run, Shows-more, Shows-each, Shows-step, Shows-last, Shows-follow}
+use Rattle.oci_protocol.specs.EveryRun.{EveryRun, ByResult, Heard}
+use Rattle.oci_protocol.proofs.RunFacts.{done_run, EveryRun-more, EveryRun-each, EveryRun-step, EveryRun-last, EveryRun-follow}
 use Rattle.engine_answers.specs.declared.answers.Got.{Got}
 use Rattle.engine_terms.specs.Contexts.{Context}
 use Rattle.engine_terms.specs.declared.settings.Settings.{Settings}
@@ -216,16 +216,16 @@ heard_long T {reading = reading} h limit own within =
 abbrev Whole : (Act → Type 0) → ℕ → List Exchange → ℕ → Got → Type 0
 Whole T m c n got = LastAnswer T c got.url got.answer
 
-whole_run : (T : Act → Type 0) (Of : List ℕ → Answer → OciDistributionError → Type 0) (s : Settings) (types : List ℕ) (request : Request) → T (Sends request) → (k l : Memory) (m after o : ℕ) (c d : List Exchange) (last : Request) (reply : Reply) (r : Result Got OciDistributionError) → Heard 10 request (read_within s.max_body_bytes) m c after last reply → Runs (whole_reply last reply) k after d o l r → ByAnswer (Whole T) (λ m c n e. Loose T Of s types c n e) m (c ++ d) o r
+whole_run : (T : Act → Type 0) (Of : List ℕ → Answer → OciDistributionError → Type 0) (s : Settings) (types : List ℕ) (request : Request) → T (Sends request) → (k l : AuthState) (m after o : ℕ) (c d : List Exchange) (last : Request) (reply : Reply) (r : Result Got OciDistributionError) → Heard 10 request (read_within s.max_body_bytes) m c after last reply → Runs (whole_reply last reply) k after d o l r → ByResult (Whole T) (λ m c n e. Loose T Of s types c n e) m (c ++ d) o r
 whole_run T Of s types request own k l m after o c d last (Headed head) r h run = absurd (read_never s.max_body_bytes head h.replies.reply_is.2)
-whole_run T Of s types request own k l m after o c d last (Answered answer) r h run = done_run (λ start d o r. ByAnswer (Whole T) (λ m c n e. Loose T Of s types c n e) m (c ++ d) o r) (Ok (record { url = last.url; answer = answer })) k l after o d r (rw append-nil (heard_answer T h own answer h.replies.reply_is.1 h.settles)) run
-whole_run T Of s types request own k l m after o c d last Failed r h run = done_run (λ start d o r. ByAnswer (Whole T) (λ m c n e. Loose T Of s types c n e) m (c ++ d) o r) (Err refusal.TransportFault) k l after o d r (rw append-nil (heard_failed T h own)) run
-whole_run T Of s types request own k l m after o c d last TooLong r h run = done_run (λ start d o r. ByAnswer (Whole T) (λ m c n e. Loose T Of s types c n e) m (c ++ d) o r) (Err refusal.BodyTooLong) k l after o d r (rw append-nil (heard_long T h s.max_body_bytes own (read_limit s.max_body_bytes))) run
+whole_run T Of s types request own k l m after o c d last (Answered answer) r h run = done_run (λ start d o r. ByResult (Whole T) (λ m c n e. Loose T Of s types c n e) m (c ++ d) o r) (Ok (record { url = last.url; answer = answer })) k l after o d r (rw append-nil (heard_answer T h own answer h.replies.reply_is.1 h.settles)) run
+whole_run T Of s types request own k l m after o c d last Failed r h run = done_run (λ start d o r. ByResult (Whole T) (λ m c n e. Loose T Of s types c n e) m (c ++ d) o r) (Err refusal.TransportFault) k l after o d r (rw append-nil (heard_failed T h own)) run
+whole_run T Of s types request own k l m after o c d last TooLong r h run = done_run (λ start d o r. ByResult (Whole T) (λ m c n e. Loose T Of s types c n e) m (c ++ d) o r) (Err refusal.BodyTooLong) k l after o d r (rw append-nil (heard_long T h s.max_body_bytes own (read_limit s.max_body_bytes))) run
 whole_run T Of s types request own k l m after o c d last SinkFailed r h run = let b = h.replies.reply_is in absurd (piped_never s.max_body_bytes b.1 (head_part b.0) b.3)
 
-pub whole_causes : (T : Act → Type 0) (Of : List ℕ → Answer → OciDistributionError → Type 0) (s : Settings) (types : List ℕ) (request : Request) → T (Sends request) → Shows (ByAnswer (Whole T) (λ m c n e. Loose T Of s types c n e)) (whole 10 request s.max_body_bytes)
+pub whole_causes : (T : Act → Type 0) (Of : List ℕ → Answer → OciDistributionError → Type 0) (s : Settings) (types : List ℕ) (request : Request) → T (Sends request) → EveryRun (ByResult (Whole T) (λ m c n e. Loose T Of s types c n e)) (whole 10 request s.max_body_bytes)
 unfolding whole
-whole_causes T Of s types request own = Shows-follow (ByAnswer (Whole T) (λ m c n e. Loose T Of s types c n e)) 10 request (read_within s.max_body_bytes) whole_reply (whole_run T Of s types request own)
+whole_causes T Of s types request own = EveryRun-follow (ByResult (Whole T) (λ m c n e. Loose T Of s types c n e)) 10 request (read_within s.max_body_bytes) whole_reply (whole_run T Of s types request own)
 
 -- the last response was accepted, and the bytes are its body
 abbrev pub Accepted : Settings → Reference → List Exchange → List ℕ → Type 0
@@ -249,9 +249,9 @@ found_accepted s image got found c last is =
 abbrev pub OwnCause : Settings → Reference → List ℕ → ℕ → List Exchange → ℕ → OciDistributionError → Type 0
 OwnCause s image types m c n e = Loose (ManifestUrl s image) (AnswerCause (OwnDigest image)) s types c n e
 
-got_causes : (s : Settings) (image : Reference) (types : List ℕ) (request : Request) → ManifestUrl s image (Sends request) → Shows (ByAnswer (λ m c n found. Accepted s image c found.0) (OwnCause s image types)) (whole 10 request s.max_body_bytes >>= λ got. Done (document_in image got))
-got_causes s image types request own = Shows-each (Whole (ManifestUrl s image)) (λ m c n found. Accepted s image c found.0) (OwnCause s image types) (whole 10 request s.max_body_bytes) (λ got. Done (document_in image got)) (whole_causes (ManifestUrl s image) (AnswerCause (OwnDigest image)) s types request own)
-    (λ m n c got last. Shows-last (λ start d o found. Accepted s image (c ++ d) found.0) (λ start d o e. OwnCause s image types m (c ++ d) o e) (document_in image got)
+got_causes : (s : Settings) (image : Reference) (types : List ℕ) (request : Request) → ManifestUrl s image (Sends request) → EveryRun (ByResult (λ m c n found. Accepted s image c found.0) (OwnCause s image types)) (whole 10 request s.max_body_bytes >>= λ got. Done (document_in image got))
+got_causes s image types request own = EveryRun-each (Whole (ManifestUrl s image)) (λ m c n found. Accepted s image c found.0) (OwnCause s image types) (whole 10 request s.max_body_bytes) (λ got. Done (document_in image got)) (whole_causes (ManifestUrl s image) (AnswerCause (OwnDigest image)) s types request own)
+    (λ m n c got last. EveryRun-last (λ start d o found. Accepted s image (c ++ d) found.0) (λ start d o e. OwnCause s image types m (c ++ d) o e) (document_in image got)
     (λ found is o. rw append-nil (found_accepted s image got found c last is))
     (λ e is o. subst (λ x. OwnCause s image types m x o e) (sym (append-nil c)) (answer_cause (ManifestUrl s image) (OwnDigest image) s types o c got.url got.answer e last (document_cause image got e is))))
 
@@ -259,17 +259,17 @@ got_causes s image types request own = Shows-each (Whole (ManifestUrl s image)) 
 pub accepted_later : (s : Settings) (image : Reference) (c : List Exchange) {d : List Exchange} {bytes : List ℕ} → Accepted s image d bytes → Accepted s image (c ++ d) bytes
 accepted_later s image c {bytes = bytes} h = last_later (ManifestUrl s image) (ManifestUrl s image) (λ address answer. (answer.status ≡ 200) × (bytes ≡ answer.body)) c (λ act h. h) (λ address answer h. h) h
 
-pub found_later : (s : Settings) (image : Reference) (types : List ℕ) (c : List Exchange) (m start o : ℕ) (d : List Exchange) (r : Result (List ℕ × List ℕ) OciDistributionError) → ByAnswer (λ m c n found. Accepted s image c found.0) (OwnCause s image types) start d o r → ByAnswer (λ m c n found. Accepted s image c found.0) (OwnCause s image types) m (c ++ d) o r
+pub found_later : (s : Settings) (image : Reference) (types : List ℕ) (c : List Exchange) (m start o : ℕ) (d : List Exchange) (r : Result (List ℕ × List ℕ) OciDistributionError) → ByResult (λ m c n found. Accepted s image c found.0) (OwnCause s image types) start d o r → ByResult (λ m c n found. Accepted s image c found.0) (OwnCause s image types) m (c ++ d) o r
 found_later s image types c m start o d (Ok found) h = accepted_later s image c h
 found_later s image types c m start o d (Err e) h = cause_later (ManifestUrl s image) (ManifestUrl s image) (AnswerCause (OwnDigest image)) (AnswerCause (OwnDigest image)) s types o c d e (λ text h. h) (λ address answer h. h) h
 
 -- a step before the request was refused
-early_where : (T : Act → Type 0) {A : Type 0} (Of : List ℕ → Answer → OciDistributionError → Type 0) (s : Settings) (types : List ℕ) (P : ℕ → List Exchange → ℕ → A → Type 0) (m n : ℕ) (c : List Exchange) (r : Result A OciDistributionError) → ByAnswer P (λ m c n e. EarlyCause T e) m c n r → ByAnswer P (λ m c n e. Loose T Of s types c n e) m c n r
+early_where : (T : Act → Type 0) {A : Type 0} (Of : List ℕ → Answer → OciDistributionError → Type 0) (s : Settings) (types : List ℕ) (P : ℕ → List Exchange → ℕ → A → Type 0) (m n : ℕ) (c : List Exchange) (r : Result A OciDistributionError) → ByResult P (λ m c n e. EarlyCause T e) m c n r → ByResult P (λ m c n e. Loose T Of s types c n e) m c n r
 early_where T Of s types P m n c (Ok a) h = h
 early_where T Of s types P m n c (Err e) h = early_cause T Of s types n c e h
 
-pub early_shown : (T : Act → Type 0) {A : Type 0} (Of : List ℕ → Answer → OciDistributionError → Type 0) (s : Settings) (types : List ℕ) (P : ℕ → List Exchange → ℕ → A → Type 0) (p : Row A) → Shows (ByAnswer P (λ m c n e. EarlyCause T e)) p → Shows (ByAnswer P (λ m c n e. Loose T Of s types c n e)) p
-early_shown T Of s types P p h = Shows-more (ByAnswer P (λ m c n e. EarlyCause T e)) (ByAnswer P (λ m c n e. Loose T Of s types c n e)) p h (early_where T Of s types P)
+pub early_shown : (T : Act → Type 0) {A : Type 0} (Of : List ℕ → Answer → OciDistributionError → Type 0) (s : Settings) (types : List ℕ) (P : ℕ → List Exchange → ℕ → A → Type 0) (p : Row A) → EveryRun (ByResult P (λ m c n e. EarlyCause T e)) p → EveryRun (ByResult P (λ m c n e. Loose T Of s types c n e)) p
+early_shown T Of s types P p h = EveryRun-more (ByResult P (λ m c n e. EarlyCause T e)) (ByResult P (λ m c n e. Loose T Of s types c n e)) p h (early_where T Of s types P)
 
 -- a URL was malformed
 pub url_cause : (T : Act → Type 0) (Of : List ℕ → Answer → OciDistributionError → Type 0) (s : Settings) (types text : List ℕ) (now : ℕ) (c : List Exchange) (e : OciDistributionError) → T (Reads text) → url_read text ≡ Err e → Loose T Of s types c now e
@@ -285,16 +285,16 @@ asks_at s image op method url types c request p = (method, types, asks_of s meth
 pub manifest_own : (s : Settings) (image : Reference) (method : Method) (url : Parts) (types : List ℕ) (c : List Exchange) (request : Request) → url_read (manifest_text s image) ≡ Ok url → Prepared s image Pull method url types c request → ManifestUrl s image (Sends request)
 manifest_own s image method url types c request is p = (url, url_is (manifest_text s image) (request_url (manifest_text s image)) url is, asks_at s image Pull method url types c request p)
 
-pub document_causes : (s : Context) (image : Reference) (url : Parts) (types : List ℕ) → url_read (manifest_text s.settings image) ≡ Ok url → Shows (ByAnswer (λ m c n found. Accepted s.settings image c found.0) (OwnCause s.settings image types)) (document s image url types)
+pub document_causes : (s : Context) (image : Reference) (url : Parts) (types : List ℕ) → url_read (manifest_text s.settings image) ≡ Ok url → EveryRun (ByResult (λ m c n found. Accepted s.settings image c found.0) (OwnCause s.settings image types)) (document s image url types)
 unfolding document
-document_causes s image url types is = Shows-each (λ m c n request. Prepared s.settings image Pull Get url types c request) (λ m c n found. Accepted s.settings image c found.0) (OwnCause s.settings image types) (prepared s image Pull Get url types) (λ request. whole 10 request s.settings.max_body_bytes >>= λ got. Done (document_in image got))
+document_causes s image url types is = EveryRun-each (λ m c n request. Prepared s.settings image Pull Get url types c request) (λ m c n found. Accepted s.settings image c found.0) (OwnCause s.settings image types) (prepared s image Pull Get url types) (λ request. whole 10 request s.settings.max_body_bytes >>= λ got. Done (document_in image got))
     (early_shown (ManifestUrl s.settings image) (AnswerCause (OwnDigest image)) s.settings types (λ m c n request. Prepared s.settings image Pull Get url types c request) (prepared s image Pull Get url types) (prepared_causes (ManifestUrl s.settings image) s image Pull Get url types (inl refl)))
-    (λ m n c request p. Shows-more (ByAnswer (λ m c n found. Accepted s.settings image c found.0) (OwnCause s.settings image types)) (λ start d o r. ByAnswer (λ m c n found. Accepted s.settings image c found.0) (OwnCause s.settings image types) m (c ++ d) o r) (whole 10 request s.settings.max_body_bytes >>= λ got. Done (document_in image got)) (got_causes s.settings image types request (manifest_own s.settings image Get url types c request is p)) (λ start o d r h. found_later s.settings image types c m start o d r h))
+    (λ m n c request p. EveryRun-more (ByResult (λ m c n found. Accepted s.settings image c found.0) (OwnCause s.settings image types)) (λ start d o r. ByResult (λ m c n found. Accepted s.settings image c found.0) (OwnCause s.settings image types) m (c ++ d) o r) (whole 10 request s.settings.max_body_bytes >>= λ got. Done (document_in image got)) (got_causes s.settings image types request (manifest_own s.settings image Get url types c request is p)) (λ start o d r h. found_later s.settings image types c m start o d r h))
 
-pub raw_causes : (s : Context) (image : Reference) (a : RegistryAuth) (types : List ℕ) → Shows (ByAnswer (λ m c n found. Accepted s.settings image c found.0) (OwnCause s.settings image types)) (pull_manifest_raw s image a types)
+pub raw_causes : (s : Context) (image : Reference) (a : RegistryAuth) (types : List ℕ) → EveryRun (ByResult (λ m c n found. Accepted s.settings image c found.0) (OwnCause s.settings image types)) (pull_manifest_raw s image a types)
 unfolding pull_manifest_raw manifest_document
-raw_causes s image a types = Shows-each (λ m c n u. Unit {0}) (λ m c n found. Accepted s.settings image c found.0) (OwnCause s.settings image types) (store image a) (λ u. Done (url_read (manifest_text s.settings image)) >>= λ url. document s image url types)
+raw_causes s image a types = EveryRun-each (λ m c n u. Unit {0}) (λ m c n found. Accepted s.settings image c found.0) (OwnCause s.settings image types) (store image a) (λ u. Done (url_read (manifest_text s.settings image)) >>= λ url. document s image url types)
     (early_shown (ManifestUrl s.settings image) (AnswerCause (OwnDigest image)) s.settings types (λ m c n u. Unit {0}) (store image a) (store_causes (ManifestUrl s.settings image) s.settings types image a))
-    (λ m n c u h. Shows-step (λ start d o r. ByAnswer (λ m c n found. Accepted s.settings image c found.0) (OwnCause s.settings image types) m (c ++ d) o r) (url_read (manifest_text s.settings image)) (λ url. document s image url types)
-    (λ url is. Shows-more (ByAnswer (λ m c n found. Accepted s.settings image c found.0) (OwnCause s.settings image types)) (λ start d o r. ByAnswer (λ m c n found. Accepted s.settings image c found.0) (OwnCause s.settings image types) m (c ++ d) o r) (document s image url types) (document_causes s image url types is) (λ start o d r h. found_later s.settings image types c m start o d r h))
+    (λ m n c u h. EveryRun-step (λ start d o r. ByResult (λ m c n found. Accepted s.settings image c found.0) (OwnCause s.settings image types) m (c ++ d) o r) (url_read (manifest_text s.settings image)) (λ url. document s image url types)
+    (λ url is. EveryRun-more (ByResult (λ m c n found. Accepted s.settings image c found.0) (OwnCause s.settings image types)) (λ start d o r. ByResult (λ m c n found. Accepted s.settings image c found.0) (OwnCause s.settings image types) m (c ++ d) o r) (document s image url types) (document_causes s image url types is) (λ start o d r h. found_later s.settings image types c m start o d r h))
     (λ e is o. url_cause (ManifestUrl s.settings image) (AnswerCause (OwnDigest image)) s.settings types (manifest_text s.settings image) o (c ++ []) e (inr refl) is))

@@ -11,7 +11,7 @@ use Rattle.oci_transport.specs.declared.message.Method.{Method}
 use Rattle.oci_names.specs.declared.reference.Reference.{Reference}
 use Rattle.oci_names.specs.Reference.{resolved_registry}
 use Rattle.oci_auth.specs.declared.auth.RegistryAuth.{RegistryAuth}
-use Rattle.oci_auth.specs.declared.memory.Memory.{Memory}
+use Rattle.oci_auth.specs.declared.auth_state.AuthState.{AuthState}
 use Rattle.oci_auth.specs.Cache.{key_of, token_at}
 use Rattle.oci_auth.specs.Auth.{authorization_of}
 use Rattle.oci_auth.specs.Kept.{Key}
@@ -19,7 +19,7 @@ use Rattle.oci_auth.specs.declared.token_type.RegistryOperation.{RegistryOperati
 use Rattle.oci_auth.specs.declared.token_type.RegistryTokenType.{RegistryTokenType}
 use Rattle.oci_protocol.specs.Proto.{Done, bind, unless_refused, ◌>>=◌}
 use Rattle.oci_protocol.specs.Ends.{Ends}
-use Rattle.oci_protocol.specs.Shows.{Shows, ByAnswer, WhereOk}
+use Rattle.oci_protocol.specs.EveryRun.{EveryRun, ByResult, WhenOk}
 use Rattle.oci_protocol.proofs.Ends.{Ends-any, Ends-bind, Runs-ends}
 use Rattle.engine_terms.specs.Contexts.{Context}
 use Rattle.engine_terms.specs.declared.settings.Settings.{Settings}
@@ -101,7 +101,7 @@ unless_early T s types f each (Err e) h = h
 next_early : (T : Act → Type 0) {A B : Type 0} (s : Settings) (types : List ℕ) (p : Row A) (f : A → Row B) → Ends (Early T) p → ((a : A) → Ends (Early T) (f a)) → Ends (Early T) (p >>= f)
 next_early T s types p f h each = Ends-bind (Early T) (Early T) p (unless_refused f) h (unless_early T s types f each)
 
-done_early : (T : Act → Type 0) {A : Type 0} (s : Settings) (types : List ℕ) (r : Result A OciDistributionError) → Early T r → Ends {K = Memory} (Early T) (Done r)
+done_early : (T : Act → Type 0) {A : Type 0} (s : Settings) (types : List ℕ) (r : Result A OciDistributionError) → Early T r → Ends {K = AuthState} (Early T) (Done r)
 unfolding Ends
 done_early T s types r h = h
 
@@ -149,19 +149,19 @@ unfolding store Ends bind
 store_early T s types image a = λ k. tt
 
 -- P holds for an `Ok`, and an error has its cause
-by_answer : (T : Act → Type 0) {A : Type 0} (s : Settings) (types : List ℕ) (P : ℕ → List Exchange → ℕ → A → Type 0) (m n : ℕ) (c : List Exchange) (r : Result A OciDistributionError) → WhereOk P m c n r → Early T r → ByAnswer P (λ m c n e. EarlyCause T e) m c n r
+by_answer : (T : Act → Type 0) {A : Type 0} (s : Settings) (types : List ℕ) (P : ℕ → List Exchange → ℕ → A → Type 0) (m n : ℕ) (c : List Exchange) (r : Result A OciDistributionError) → WhenOk P m c n r → Early T r → ByResult P (λ m c n e. EarlyCause T e) m c n r
 by_answer T s types P m n c (Ok a) h early = h
 by_answer T s types P m n c (Err e) h early = early
 
-early_shows : (T : Act → Type 0) {A : Type 0} (s : Settings) (types : List ℕ) (P : ℕ → List Exchange → ℕ → A → Type 0) (p : Row A) → Shows (WhereOk P) p → Ends (Early T) p → Shows (ByAnswer P (λ m c n e. EarlyCause T e)) p
+early_shows : (T : Act → Type 0) {A : Type 0} (s : Settings) (types : List ℕ) (P : ℕ → List Exchange → ℕ → A → Type 0) (p : Row A) → EveryRun (WhenOk P) p → Ends (Early T) p → EveryRun (ByResult P (λ m c n e. EarlyCause T e)) p
 early_shows T s types P p h ends = record { shows = λ k l m n c r run. by_answer T s types P m n c r (h.shows k l m n c r run) (Runs-ends (Early T) p k l m n c r ends run) }
 
-pub prepared_causes : (T : Act → Type 0) (s : Context) (image : Reference) (op : RegistryOperation) (method : Method) (url : Parts) (types : List ℕ) → T (Reads (registry_text s.settings image)) → Shows (ByAnswer (λ m c n request. Prepared s.settings image op method url types c request) (λ m c n e. EarlyCause T e)) (prepared s image op method url types)
+pub prepared_causes : (T : Act → Type 0) (s : Context) (image : Reference) (op : RegistryOperation) (method : Method) (url : Parts) (types : List ℕ) → T (Reads (registry_text s.settings image)) → EveryRun (ByResult (λ m c n request. Prepared s.settings image op method url types c request) (λ m c n e. EarlyCause T e)) (prepared s image op method url types)
 prepared_causes T s image op method url types here = early_shows T s.settings types (λ m c n request. Prepared s.settings image op method url types c request) (prepared s image op method url types) (prepared_shows s image op method url types) (prepared_early T s image op method url types here)
 
-any_where : {A : Type 0} (m n : ℕ) (c : List Exchange) (r : Result A OciDistributionError) → WhereOk (λ m c n (a : A). Unit {0}) m c n r
+any_where : {A : Type 0} (m n : ℕ) (c : List Exchange) (r : Result A OciDistributionError) → WhenOk (λ m c n (a : A). Unit {0}) m c n r
 any_where m n c (Ok a) = tt
 any_where m n c (Err e) = tt
 
-pub store_causes : (T : Act → Type 0) (s : Settings) (types : List ℕ) (image : Reference) (a : RegistryAuth) → Shows (ByAnswer (λ m c n u. Unit {0}) (λ m c n e. EarlyCause T e)) (store image a)
+pub store_causes : (T : Act → Type 0) (s : Settings) (types : List ℕ) (image : Reference) (a : RegistryAuth) → EveryRun (ByResult (λ m c n u. Unit {0}) (λ m c n e. EarlyCause T e)) (store image a)
 store_causes T s types image a = early_shows T s types (λ m c n u. Unit {0}) (store image a) (record { shows = λ k l m n c r run. any_where m n c r }) (store_early T s types image a)

@@ -3,7 +3,7 @@ use Rattle.std.proofs.Common.{◌≡◌, inl, inr, ℕ, Bool, true, false, List,
 use Rattle.std.specs.Prelude.{MatchBool, ◌&&◌, nat_lt, if◌then◌else◌}
 use Rattle.std.specs.FinMap as map
 use Rattle.url.specs.Parts.{Parts}
-use Rattle.json_values.specs.Tray.{Tray}
+use Rattle.json_values.specs.SinkState.{SinkState}
 use Rattle.oci_transport.specs.Headers.{Fields, added, held, is_header_value}
 use Rattle.oci_transport.specs.Link.{Link}
 use Rattle.oci_transport.specs.Urls.{request_url}
@@ -11,7 +11,7 @@ use Rattle.oci_transport.specs.declared.message.Method.{Method}
 use Rattle.oci_transport.specs.declared.message.Method.TheVariants.{Get, Head}
 use Rattle.oci_names.specs.declared.reference.Reference.{Reference}
 use Rattle.oci_auth.specs.declared.auth.RegistryAuth.{RegistryAuth}
-use Rattle.oci_auth.specs.declared.memory.Memory.{Memory}
+use Rattle.oci_auth.specs.declared.auth_state.AuthState.{AuthState}
 use Rattle.oci_auth.specs.declared.token_type.RegistryOperation.{RegistryOperation}
 use Rattle.oci_auth.specs.declared.token_type.RegistryOperation.TheVariants.{Pull}
 use Rattle.oci_auth.specs.declared.token_type.RegistryTokenType.{RegistryTokenType}
@@ -29,7 +29,7 @@ use Rattle.engine_terms.specs.Error.{is_memory, ◌>>=◌ as ◌into◌}
 use Rattle.engine_requests.specs.Addresses.{manifest_text, blob_text, url_or, url_read}
 use Rattle.engine_requests.specs.Requests.{with_header, with_accept, with_token, headers_of, request_of, bare_request, manifest_types}
 use Rattle.engine_rows.specs.Rows.{Row, store, authorized, prepared, named_after}
-use Rattle.engine_rows.specs.Blobs.{Destination, Spills, filled}
+use Rattle.engine_rows.specs.Blobs.{Destination, MeetsIntoSink, filled}
 use Rattle.engine_rows.specs.Offers.{tried}
 use Rattle.engine_rows.specs.Pulls.{document, digest_by, manifest_document, pull_manifest_raw, fetch_manifest_digest, pull_manifest, blob_to}
 use Rattle.engine_rows.specs.Image.{pull}
@@ -158,7 +158,7 @@ unless_refusal f (Err e) h = h
 pub early_on : {A B : Type 0} (p : Row A) (f : A → Row B) → Ends IsEarly p → Ends IsEarly (p >>= f)
 early_on p f h = Ends-bind IsEarly IsEarly p (unless_refused f) h (unless_refusal f)
 
-done_bad : (s : Settings) (method : Method) (url : Parts) (types : List ℕ) (token : Option RegistryTokenType) → HasBadHeader s types → Ends {K = Memory} IsEarly (Done (request_of s method url (Some types) token))
+done_bad : (s : Settings) (method : Method) (url : Parts) (types : List ℕ) (token : Option RegistryTokenType) → HasBadHeader s types → Ends {K = AuthState} IsEarly (Done (request_of s method url (Some types) token))
 unfolding Ends
 done_bad s method url types token bad = subst IsEarly (sym (request_bad s method url types token bad)) tt
 
@@ -223,7 +223,7 @@ by_memory : {A : Type 0} (r : Result A OciDistributionError) → UnlessMemory is
 by_memory (Ok a) h = h
 by_memory (Err e) h = of_error e h
 
-pub met_early : {A : Type 0} {p : Row A} {old new : Link} {k l : Memory} {r : Result A OciDistributionError} → Ends IsEarly p → Meets is_memory p old new k l r → IsEarly r
+pub met_early : {A : Type 0} {p : Row A} {old new : Link} {k l : AuthState} {r : Result A OciDistributionError} → Ends IsEarly p → Meets is_memory p old new k l r → IsEarly r
 met_early {r = r} h met = by_memory r (Meets-ends IsEarly h met)
 
 -- the same if the bytes were written to a sink
@@ -231,10 +231,10 @@ filled_early : (body : List ℕ) (r : Result (Unit {0}) OciDistributionError) �
 filled_early body (Ok u) h = absurd h
 filled_early body (Err e) h = h
 
-pub spilled_early : {p : Row (List ℕ)} {old new : Link} {k l : Memory} {before after : Tray} {r : Result (Unit {0}) OciDistributionError} → Ends IsEarly p → Spills p old new k l before after r → IsEarly r
+pub spilled_early : {p : Row (List ℕ)} {old new : Link} {k l : AuthState} {before after : SinkState} {r : Result (Unit {0}) OciDistributionError} → Ends IsEarly p → MeetsIntoSink p old new k l before after r → IsEarly r
 spilled_early {r = r} h spills = filled_early spills.body r (met_early h spills.met)
 
-pub met_only : {A : Type 0} (e : OciDistributionError) {p : Row A} {old new : Link} {k l : Memory} {r : Result A OciDistributionError} → Ends (Only e) p → Meets is_memory p old new k l r → IsRefusedAs e r
+pub met_only : {A : Type 0} (e : OciDistributionError) {p : Row A} {old new : Link} {k l : AuthState} {r : Result A OciDistributionError} → Ends (Only e) p → Meets is_memory p old new k l r → IsRefusedAs e r
 met_only e h met = Meets-ends (Only e) h met
 
 filled_only : (e : OciDistributionError) (body : List ℕ) (r : Result (Unit {0}) OciDistributionError) → IsRefusedAs e (filled body r) → IsRefusedAs e r
@@ -244,9 +244,9 @@ filled_only e body (Err x) h = by_kind (is_memory x) h where
   by_kind true h = tt
   by_kind false h = let same : x ≡ e = cc h in ap Err same
 
-pub spilled_only : (e : OciDistributionError) {p : Row (List ℕ)} {old new : Link} {k l : Memory} {before after : Tray} {r : Result (Unit {0}) OciDistributionError} → Ends (Only e) p → Spills p old new k l before after r → IsRefusedAs e r
+pub spilled_only : (e : OciDistributionError) {p : Row (List ℕ)} {old new : Link} {k l : AuthState} {before after : SinkState} {r : Result (Unit {0}) OciDistributionError} → Ends (Only e) p → MeetsIntoSink p old new k l before after r → IsRefusedAs e r
 spilled_only e {r = r} h spills = filled_only e spills.body r (met_only e h spills.met)
 
 -- types that were joined to one text
-pub listed_met : (s : Context) (image : Reference) (a : RegistryAuth) (text types : List ℕ) {old new : Link} {k l : Memory} {r : Result (List ℕ × List ℕ) OciDistributionError} → text ≡ types → Meets is_memory (pull_manifest_raw s image a text) old new k l r → Meets is_memory (pull_manifest_raw s image a types) old new k l r
+pub listed_met : (s : Context) (image : Reference) (a : RegistryAuth) (text types : List ℕ) {old new : Link} {k l : AuthState} {r : Result (List ℕ × List ℕ) OciDistributionError} → text ≡ types → Meets is_memory (pull_manifest_raw s image a text) old new k l r → Meets is_memory (pull_manifest_raw s image a types) old new k l r
 listed_met s image a text types is met = rw is at met

@@ -12,8 +12,8 @@ use Rattle.oci_platforms.specs.Promise.{lists, resolved}
 use Rattle.oci_platforms.specs.declared.promise.ResolverPromise.{ResolverPromise}
 use Rattle.oci_auth.specs.declared.auth.RegistryAuth.{RegistryAuth}
 use Rattle.oci_protocol.specs.Proto.{Done, ◌>>=◌}
-use Rattle.oci_protocol.specs.Shows.{Shows, ByAnswer}
-use Rattle.oci_protocol.proofs.RunFacts.{Shows-done, Shows-more, Shows-each, Shows-step, Shows-last}
+use Rattle.oci_protocol.specs.EveryRun.{EveryRun, ByResult}
+use Rattle.oci_protocol.proofs.RunFacts.{EveryRun-done, EveryRun-more, EveryRun-each, EveryRun-step, EveryRun-last}
 use Rattle.engine_terms.specs.Contexts.{Context}
 use Rattle.engine_terms.specs.declared.settings.Settings.{Settings}
 use Rattle.engine_terms.specs.declared.error.OciDistributionError.{OciDistributionError}
@@ -163,47 +163,47 @@ HasRead m c n manifest = ManifestRead c manifest
 abbrev pub FoundRefused : Settings → Reference → ℕ → List Exchange → ℕ → OciDistributionError → Type 0
 FoundRefused s image m c n e = FoundLoose s image c n e
 
-second_where : (s : Settings) (image : Reference) (index : OciImageIndex) (digest : List ℕ) (m start o : ℕ) (c d : List Exchange) (r : Result (OciManifest × List ℕ) OciDistributionError) → Chosen s index digest → IndexRead c index → ByAnswer (λ m c n found. ReadLast s (entry_reference image digest) c found.0) (ManifestCause s (entry_reference image digest)) start d o r → ByAnswer (λ start d o found. ReadLast s (entry_reference image digest) d found.0) (λ start d o e. FoundRefused s image m (c ++ d) o e) start d o r
+second_where : (s : Settings) (image : Reference) (index : OciImageIndex) (digest : List ℕ) (m start o : ℕ) (c d : List Exchange) (r : Result (OciManifest × List ℕ) OciDistributionError) → Chosen s index digest → IndexRead c index → ByResult (λ m c n found. ReadLast s (entry_reference image digest) c found.0) (ManifestCause s (entry_reference image digest)) start d o r → ByResult (λ start d o found. ReadLast s (entry_reference image digest) d found.0) (λ start d o e. FoundRefused s image m (c ++ d) o e) start d o r
 second_where s image index digest m start o c d (Ok found) choice read h = h
 second_where s image index digest m start o c d (Err e) choice read h = second_found s image c d digest o e (record { index = index; read = index_before d read; listed = choice.listed }) h
 
-entry_shows : (s : Context) (image : Reference) (a : RegistryAuth) (index : OciImageIndex) (digest : List ℕ) (m : ℕ) (c : List Exchange) → Chosen s.settings index digest → IndexRead c index → Shows (λ start d o r. ByAnswer HasRead (FoundRefused s.settings image) m (c ++ d) o r) (pull_entry s image a digest)
+entry_shows : (s : Context) (image : Reference) (a : RegistryAuth) (index : OciImageIndex) (digest : List ℕ) (m : ℕ) (c : List Exchange) → Chosen s.settings index digest → IndexRead c index → EveryRun (λ start d o r. ByResult HasRead (FoundRefused s.settings image) m (c ++ d) o r) (pull_entry s image a digest)
 unfolding pull_entry
-entry_shows s image a index digest m c choice read = Shows-each (λ start d o found. ReadLast s.settings (entry_reference image digest) d found.0) (λ start d o manifest. ManifestRead (c ++ d) manifest) (λ start d o e. FoundRefused s.settings image m (c ++ d) o e) (pull_manifest s (entry_reference image digest) a) (λ found. Done (entry_manifest digest found.0))
-    (Shows-more (ByAnswer (λ m c n found. ReadLast s.settings (entry_reference image digest) c found.0) (ManifestCause s.settings (entry_reference image digest))) (ByAnswer (λ start d o found. ReadLast s.settings (entry_reference image digest) d found.0) (λ start d o e. FoundRefused s.settings image m (c ++ d) o e)) (pull_manifest s (entry_reference image digest) a) (manifest_causes s (entry_reference image digest) a) (λ start o d r h. second_where s.settings image index digest m start o c d r choice read h))
-    (λ start n d found last. Shows-last (λ st f o manifest. ManifestRead (c ++ (d ++ f)) manifest) (λ st f o e. FoundRefused s.settings image m (c ++ (d ++ f)) o e) (entry_manifest digest found.0)
+entry_shows s image a index digest m c choice read = EveryRun-each (λ start d o found. ReadLast s.settings (entry_reference image digest) d found.0) (λ start d o manifest. ManifestRead (c ++ d) manifest) (λ start d o e. FoundRefused s.settings image m (c ++ d) o e) (pull_manifest s (entry_reference image digest) a) (λ found. Done (entry_manifest digest found.0))
+    (EveryRun-more (ByResult (λ m c n found. ReadLast s.settings (entry_reference image digest) c found.0) (ManifestCause s.settings (entry_reference image digest))) (ByResult (λ start d o found. ReadLast s.settings (entry_reference image digest) d found.0) (λ start d o e. FoundRefused s.settings image m (c ++ d) o e)) (pull_manifest s (entry_reference image digest) a) (manifest_causes s (entry_reference image digest) a) (λ start o d r h. second_where s.settings image index digest m start o c d r choice read h))
+    (λ start n d found last. EveryRun-last (λ st f o manifest. ManifestRead (c ++ (d ++ f)) manifest) (λ st f o e. FoundRefused s.settings image m (c ++ (d ++ f)) o e) (entry_manifest digest found.0)
     (λ manifest is o. subst (λ x. ManifestRead (c ++ x) manifest) (sym (append-nil d)) (manifest_after s.settings (entry_reference image digest) c (subst (ReadLast s.settings (entry_reference image digest) d) (entry_is digest found.0 manifest is) last)))
     (λ e is o. subst (λ x. FoundRefused s.settings image m (c ++ x) o e) (sym (append-nil d)) (again_found s.settings image c d index digest o found.0 e choice read last is)))
 
 abbrev Found : ℕ → List Exchange → ℕ → OciImageManifest × List ℕ × Option (List ℕ) → Type 0
 Found m c n found = ManifestRead c found.0
 
-by_shows : (s : Context) (image : Reference) (a : RegistryAuth) (document : OciManifest) (digest : List ℕ) (m : ℕ) (c : List Exchange) → ReadLast s.settings image c document → Shows (λ start d o r. ByAnswer Found (FoundRefused s.settings image) m (c ++ d) o r) (manifest_by s image a document digest)
-by_shows s image a (Image manifest) digest m c last = Shows-done (λ start d o r. ByAnswer Found (FoundRefused s.settings image) m (c ++ d) o r) (Ok (manifest, digest, None)) (λ o. subst (λ x. ManifestRead x manifest) (sym (append-nil c)) (read_manifest s.settings image c manifest last))
-by_shows s image a (ImageIndex index) digest m c last = Shows-step (λ start d o r. ByAnswer Found (FoundRefused s.settings image) m (c ++ d) o r) (entry_found s.settings.platform_resolver index.manifests) (λ entry. pull_entry s image a entry >>= λ manifest. Done (Ok (manifest, entry, Some digest)))
-    (λ entry is. Shows-each (λ start d o manifest. ManifestRead (c ++ d) manifest) (λ start d o found. ManifestRead (c ++ d) found.0) (λ start d o e. FoundRefused s.settings image m (c ++ d) o e) (pull_entry s image a entry) (λ manifest. Done (Ok (manifest, entry, Some digest)))
+by_shows : (s : Context) (image : Reference) (a : RegistryAuth) (document : OciManifest) (digest : List ℕ) (m : ℕ) (c : List Exchange) → ReadLast s.settings image c document → EveryRun (λ start d o r. ByResult Found (FoundRefused s.settings image) m (c ++ d) o r) (manifest_by s image a document digest)
+by_shows s image a (Image manifest) digest m c last = EveryRun-done (λ start d o r. ByResult Found (FoundRefused s.settings image) m (c ++ d) o r) (Ok (manifest, digest, None)) (λ o. subst (λ x. ManifestRead x manifest) (sym (append-nil c)) (read_manifest s.settings image c manifest last))
+by_shows s image a (ImageIndex index) digest m c last = EveryRun-step (λ start d o r. ByResult Found (FoundRefused s.settings image) m (c ++ d) o r) (entry_found s.settings.platform_resolver index.manifests) (λ entry. pull_entry s image a entry >>= λ manifest. Done (Ok (manifest, entry, Some digest)))
+    (λ entry is. EveryRun-each (λ start d o manifest. ManifestRead (c ++ d) manifest) (λ start d o found. ManifestRead (c ++ d) found.0) (λ start d o e. FoundRefused s.settings image m (c ++ d) o e) (pull_entry s image a entry) (λ manifest. Done (Ok (manifest, entry, Some digest)))
     (entry_shows s image a index entry m c (chosen s.settings index entry is) (read_index s.settings image c index last))
-    (λ start n d manifest h. Shows-done (λ st f o r. ByAnswer (λ start d o found. ManifestRead (c ++ d) found.0) (λ start d o e. FoundRefused s.settings image m (c ++ d) o e) start (d ++ f) o r) (Ok (manifest, entry, Some digest)) (λ o. subst (λ x. ManifestRead (c ++ x) manifest) (sym (append-nil d)) h)))
+    (λ start n d manifest h. EveryRun-done (λ st f o r. ByResult (λ start d o found. ManifestRead (c ++ d) found.0) (λ start d o e. FoundRefused s.settings image m (c ++ d) o e) start (d ++ f) o r) (Ok (manifest, entry, Some digest)) (λ o. subst (λ x. ManifestRead (c ++ x) manifest) (sym (append-nil d)) h)))
     (λ e is o. subst (λ x. FoundRefused s.settings image m x o e) (sym (append-nil c)) (found_err s.settings image c o index s.settings.platform_resolver e refl last is))
 
-first_where : (s : Settings) (image : Reference) (m n : ℕ) (c : List Exchange) (r : Result (OciManifest × List ℕ) OciDistributionError) → ByAnswer (λ m c n found. ReadLast s image c found.0) (ManifestCause s image) m c n r → ByAnswer (λ m c n found. ReadLast s image c found.0) (FoundRefused s image) m c n r
+first_where : (s : Settings) (image : Reference) (m n : ℕ) (c : List Exchange) (r : Result (OciManifest × List ℕ) OciDistributionError) → ByResult (λ m c n found. ReadLast s image c found.0) (ManifestCause s image) m c n r → ByResult (λ m c n found. ReadLast s image c found.0) (FoundRefused s image) m c n r
 first_where s image m n c (Ok found) h = h
 first_where s image m n c (Err e) h = first_found s image c n e h
 
 -- the manifest was parsed, and each refusal has its cause
-pub found_causes : (s : Context) (image : Reference) (a : RegistryAuth) → Shows (ByAnswer (λ m c n found. ManifestRead c found.0) (FoundRefused s.settings image)) (pull_image_manifest_and_list_digest s image a)
+pub found_causes : (s : Context) (image : Reference) (a : RegistryAuth) → EveryRun (ByResult (λ m c n found. ManifestRead c found.0) (FoundRefused s.settings image)) (pull_image_manifest_and_list_digest s image a)
 unfolding pull_image_manifest_and_list_digest
-found_causes s image a = Shows-each (λ m c n found. ReadLast s.settings image c found.0) Found (FoundRefused s.settings image) (pull_manifest s image a) (λ found. manifest_by s image a found.0 found.1)
-    (Shows-more (ByAnswer (λ m c n found. ReadLast s.settings image c found.0) (ManifestCause s.settings image)) (ByAnswer (λ m c n found. ReadLast s.settings image c found.0) (FoundRefused s.settings image)) (pull_manifest s image a) (manifest_causes s image a) (λ m n c r h. first_where s.settings image m n c r h))
+found_causes s image a = EveryRun-each (λ m c n found. ReadLast s.settings image c found.0) Found (FoundRefused s.settings image) (pull_manifest s image a) (λ found. manifest_by s image a found.0 found.1)
+    (EveryRun-more (ByResult (λ m c n found. ReadLast s.settings image c found.0) (ManifestCause s.settings image)) (ByResult (λ m c n found. ReadLast s.settings image c found.0) (FoundRefused s.settings image)) (pull_manifest s image a) (manifest_causes s image a) (λ m n c r h. first_where s.settings image m n c r h))
     (λ m n c found last. by_shows s image a found.0 found.1 m c last)
 
-pub found_any : (s : Context) (image : Reference) (a : RegistryAuth) → Shows (ByAnswer (λ m c n found. Unit {0}) (FoundRefused s.settings image)) (pull_image_manifest_and_list_digest s image a)
-found_any s image a = Shows-more (ByAnswer Found (FoundRefused s.settings image)) (ByAnswer (λ m c n found. Unit {0}) (FoundRefused s.settings image)) (pull_image_manifest_and_list_digest s image a) (found_causes s image a) (λ m n c r h. any_where s.settings image m n c r h) where
-  any_where : (s : Settings) (image : Reference) (m n : ℕ) (c : List Exchange) (r : Result (OciImageManifest × List ℕ × Option (List ℕ)) OciDistributionError) → ByAnswer Found (FoundRefused s image) m c n r → ByAnswer (λ m c n found. Unit {0}) (FoundRefused s image) m c n r
+pub found_any : (s : Context) (image : Reference) (a : RegistryAuth) → EveryRun (ByResult (λ m c n found. Unit {0}) (FoundRefused s.settings image)) (pull_image_manifest_and_list_digest s image a)
+found_any s image a = EveryRun-more (ByResult Found (FoundRefused s.settings image)) (ByResult (λ m c n found. Unit {0}) (FoundRefused s.settings image)) (pull_image_manifest_and_list_digest s image a) (found_causes s image a) (λ m n c r h. any_where s.settings image m n c r h) where
+  any_where : (s : Settings) (image : Reference) (m n : ℕ) (c : List Exchange) (r : Result (OciImageManifest × List ℕ × Option (List ℕ)) OciDistributionError) → ByResult Found (FoundRefused s image) m c n r → ByResult (λ m c n found. Unit {0}) (FoundRefused s image) m c n r
   any_where s image m n c (Ok found) h = tt
   any_where s image m n c (Err e) h = h
 
-pub one_causes : (s : Context) (image : Reference) (a : RegistryAuth) → Shows (ByAnswer (λ m c n found. Unit {0}) (FoundRefused s.settings image)) (pull_image_manifest s image a)
+pub one_causes : (s : Context) (image : Reference) (a : RegistryAuth) → EveryRun (ByResult (λ m c n found. Unit {0}) (FoundRefused s.settings image)) (pull_image_manifest s image a)
 unfolding pull_image_manifest
-one_causes s image a = Shows-each Found (λ m c n found. Unit {0}) (FoundRefused s.settings image) (pull_image_manifest_and_list_digest s image a) (λ found. Done (Ok (found.0, found.1))) (found_causes s image a)
-    (λ m n c found h. Shows-done (λ start d o r. ByAnswer (λ m c n found. Unit {0}) (FoundRefused s.settings image) m (c ++ d) o r) (Ok (found.0, found.1)) (λ o. tt))
+one_causes s image a = EveryRun-each Found (λ m c n found. Unit {0}) (FoundRefused s.settings image) (pull_image_manifest_and_list_digest s image a) (λ found. Done (Ok (found.0, found.1))) (found_causes s image a)
+    (λ m n c found h. EveryRun-done (λ start d o r. ByResult (λ m c n found. Unit {0}) (FoundRefused s.settings image) m (c ++ d) o r) (Ok (found.0, found.1)) (λ o. tt))

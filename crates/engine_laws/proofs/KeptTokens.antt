@@ -11,11 +11,11 @@ use Rattle.oci_transport.specs.declared.message.Exchange.{Exchange}
 use Rattle.oci_names.specs.Reference.{resolved_registry}
 use Rattle.oci_auth.specs.Cache.{key_of, kept_until, kept_token, given_at, token_at}
 use Rattle.oci_auth.specs.Kept.{Key, key_in, is_under, inserted}
-use Rattle.oci_auth.specs.Memory.{stored}
+use Rattle.oci_auth.specs.AuthState.{stored}
 use Rattle.oci_auth.specs.declared.auth.RegistryAuth.{RegistryAuth}
 use Rattle.oci_auth.specs.declared.cache.TokenCache.{TokenCache}
 use Rattle.oci_auth.specs.declared.kept.KeptToken.{KeptToken}
-use Rattle.oci_auth.specs.declared.memory.Memory.{Memory}
+use Rattle.oci_auth.specs.declared.auth_state.AuthState.{AuthState}
 use Rattle.oci_auth.specs.declared.token_type.RegistryTokenType.{RegistryTokenType}
 use Rattle.oci_auth.proofs.Places.{is_kept, same_key, under_itself}
 use Rattle.engine_rows.specs.Rows.{with_kept}
@@ -23,7 +23,7 @@ use Rattle.engine_laws.specs.Confined.{KeptOrAdded, KeptWell, StoredOrHanded, St
 use Rattle.engine_laws.specs.Held.{Entry, IsAuth, GivenIn, IsHeld}
 
 -- the client state after these exchanges
-pub record Keeps (x : Entry) (l : Memory) (c : List Exchange) : Type 0 where
+pub record Keeps (x : Entry) (l : AuthState) (c : List Exchange) : Type 0 where
   pub credentials : (a : RegistryAuth) → map.get l.credentials (resolved_registry x.image) ≡ Some a → IsAuth x a
   pub tokens : (token : RegistryTokenType) → token_at l.tokens (key_of x.image x.operation) x.moment ≡ Some token → IsHeld x c token
   pub added : KeptWell x l c
@@ -46,7 +46,7 @@ added_more : (x : Entry) (c d : List Exchange) (key : Key) (moment : ℕ) (token
 added_more x c d key moment token (inl h) = inl h
 added_more x c d key moment token (inr h) = inr (h.0, held_more x c d token h.1)
 
-pub keeps_more : (x : Entry) (l : Memory) (c d : List Exchange) → Keeps x l c → Keeps x l (c ++ d)
+pub keeps_more : (x : Entry) (l : AuthState) (c d : List Exchange) → Keeps x l c → Keeps x l (c ++ d)
 keeps_more x l c d k = record { credentials = k.credentials; tokens = λ token is. held_more x c d token (k.tokens token is); added = λ key moment token is. added_more x c d key moment token (k.added key moment token is); stored = k.stored }
 
 -- ---- credentials are stored
@@ -63,7 +63,7 @@ into_stored : (x : Entry) (found : Option RegistryAuth) (registry key : List ℕ
 into_stored x found registry key a other true tied handed own before is = let same : a ≡ other = cc is in inr (same_text key registry (sym (texts_ties key registry ∙ tied)) ∙ own, handed ∙ ap Some same)
 into_stored x found registry key a other false tied handed own before is = before is
 
-stored_by : (x : Entry) (l : Memory) (c : List Exchange) (registry : List ℕ) (a : RegistryAuth) (b : Bool) → x.handed ≡ Some a → registry ≡ resolved_registry x.image → Keeps x l c → Keeps x (if b then l else record l { credentials = map.insert l.credentials registry a }) c
+stored_by : (x : Entry) (l : AuthState) (c : List Exchange) (registry : List ℕ) (a : RegistryAuth) (b : Bool) → x.handed ≡ Some a → registry ≡ resolved_registry x.image → Keeps x l c → Keeps x (if b then l else record l { credentials = map.insert l.credentials registry a }) c
 stored_by x l c registry a true handed own k = k
 stored_by x l c registry a false handed own k = record {
   credentials = λ other is. into_map x l.credentials registry a other handed (k.credentials other) is;
@@ -72,7 +72,7 @@ stored_by x l c registry a false handed own k = record {
   stored = λ key other is. into_stored x (map.get l.credentials key) registry key a other (eq_by_cmp by_bytes key registry) refl handed own (k.stored key other) (sym (get-insert nat_list_cmp_total l.credentials registry a key) ∙ is);
 }
 
-pub keeps_stored : (x : Entry) (l : Memory) (c : List Exchange) (a : RegistryAuth) → x.handed ≡ Some a → Keeps x l c → Keeps x (stored l (resolved_registry x.image) a) c
+pub keeps_stored : (x : Entry) (l : AuthState) (c : List Exchange) (a : RegistryAuth) → x.handed ≡ Some a → Keeps x l c → Keeps x (stored l (resolved_registry x.image) a) c
 keeps_stored x l c a handed k = stored_by x l c (resolved_registry x.image) a (is_some (map.get l.credentials (resolved_registry x.image))) handed refl k
 
 -- ---- a token is stored
@@ -110,5 +110,5 @@ cache_added : (x : Entry) (cache : TokenCache) (c : List Exchange) (token other 
 cache_added x cache c token other None moment key held before is = before is
 cache_added x cache c token other (Some until) moment key held before is = added_by x cache c token other until moment key (is_under key (kept_token (key_of x.image x.operation) token until)) refl held before is
 
-pub keeps_kept : (x : Entry) (l : Memory) (c : List Exchange) (token : RegistryTokenType) → IsHeld x c token → Keeps x l c → Keeps x (with_kept l (key_of x.image x.operation) token x.moment) c
+pub keeps_kept : (x : Entry) (l : AuthState) (c : List Exchange) (token : RegistryTokenType) → IsHeld x c token → Keeps x l c → Keeps x (with_kept l (key_of x.image x.operation) token x.moment) c
 keeps_kept x l c token held k = record { credentials = k.credentials; tokens = λ other is. cache_by x l.tokens c token other (kept_until token l.tokens.default_expiration_secs x.moment) held (k.tokens other) is; added = λ key moment other is. cache_added x l.tokens c token other (kept_until token l.tokens.default_expiration_secs x.moment) moment key held (k.added key moment other) is; stored = k.stored }

@@ -14,8 +14,8 @@ use Rattle.oci_manifests.specs.declared.versioned.Versioned.{Versioned}
 use Rattle.oci_manifests.specs.declared.document.OciManifest.{OciManifest}
 use Rattle.oci_auth.specs.declared.auth.RegistryAuth.{RegistryAuth}
 use Rattle.oci_protocol.specs.Proto.{Done, ◌>>=◌}
-use Rattle.oci_protocol.specs.Shows.{Shows, ByAnswer}
-use Rattle.oci_protocol.proofs.RunFacts.{Shows-done, Shows-more, Shows-each, Shows-step}
+use Rattle.oci_protocol.specs.EveryRun.{EveryRun, ByResult}
+use Rattle.oci_protocol.proofs.RunFacts.{EveryRun-done, EveryRun-more, EveryRun-each, EveryRun-step}
 use Rattle.engine_terms.specs.Contexts.{Context}
 use Rattle.engine_terms.specs.declared.settings.Settings.{Settings}
 use Rattle.engine_terms.specs.declared.error.SpecViolation.TheVariants.{Status}
@@ -135,14 +135,14 @@ ReadLast s image c document = ByLast (ManifestUrl s image) (λ address answer. d
 abbrev pub ManifestCause : Settings → Reference → ℕ → List Exchange → ℕ → OciDistributionError → Type 0
 ManifestCause s image m c n e = Loose (ManifestUrl s image) (DocumentCause (OwnDigest image)) s manifest_types c n e
 
-pub raw_where : (s : Settings) (image : Reference) (m n : ℕ) (c : List Exchange) (r : Result (List ℕ × List ℕ) OciDistributionError) → ByAnswer (λ m c n found. Accepted s image c found.0) (OwnCause s image manifest_types) m c n r → ByAnswer (λ m c n found. Accepted s image c found.0) (ManifestCause s image) m c n r
+pub raw_where : (s : Settings) (image : Reference) (m n : ℕ) (c : List Exchange) (r : Result (List ℕ × List ℕ) OciDistributionError) → ByResult (λ m c n found. Accepted s image c found.0) (OwnCause s image manifest_types) m c n r → ByResult (λ m c n found. Accepted s image c found.0) (ManifestCause s image) m c n r
 raw_where s image m n c (Ok found) h = h
 raw_where s image m n c (Err e) h = cause_later (ManifestUrl s image) (ManifestUrl s image) (AnswerCause (OwnDigest image)) (DocumentCause (OwnDigest image)) s manifest_types n [] c e (λ text h. h) (λ address answer h. answer_document (OwnDigest image) (OwnDigest image) address answer e (λ text h. h) h) h
 
-pub manifest_causes : (s : Context) (image : Reference) (a : RegistryAuth) → Shows (ByAnswer (λ m c n found. ReadLast s.settings image c found.0) (ManifestCause s.settings image)) (pull_manifest s image a)
+pub manifest_causes : (s : Context) (image : Reference) (a : RegistryAuth) → EveryRun (ByResult (λ m c n found. ReadLast s.settings image c found.0) (ManifestCause s.settings image)) (pull_manifest s image a)
 unfolding pull_manifest
-manifest_causes s image a = Shows-each (λ m c n found. Accepted s.settings image c found.0) (λ m c n found. ReadLast s.settings image c found.0) (ManifestCause s.settings image) (pull_manifest_raw s image a manifest_types) (λ found. Done (document_read found.0) >>= λ document. Done (Ok (document, found.1)))
-    (Shows-more (ByAnswer (λ m c n found. Accepted s.settings image c found.0) (OwnCause s.settings image manifest_types)) (ByAnswer (λ m c n found. Accepted s.settings image c found.0) (ManifestCause s.settings image)) (pull_manifest_raw s image a manifest_types) (raw_causes s image a manifest_types) (raw_where s.settings image))
-    (λ m n c found h. Shows-step (λ start d o r. ByAnswer (λ m c n found. ReadLast s.settings image c found.0) (ManifestCause s.settings image) m (c ++ d) o r) (document_read found.0) (λ document. Done (Ok (document, found.1)))
-    (λ document is. Shows-done (λ start d o r. ByAnswer (λ m c n found. ReadLast s.settings image c found.0) (ManifestCause s.settings image) m (c ++ d) o r) (Ok (document, found.1)) (λ o. subst (λ x. ReadLast s.settings image x document) (sym (append-nil c)) (last_later (ManifestUrl s.settings image) (ManifestUrl s.settings image) (λ address answer. document_read answer.body ≡ Ok document) [] (λ act h. h) (λ address answer g. ap document_read (sym g.1) ∙ is) h)))
+manifest_causes s image a = EveryRun-each (λ m c n found. Accepted s.settings image c found.0) (λ m c n found. ReadLast s.settings image c found.0) (ManifestCause s.settings image) (pull_manifest_raw s image a manifest_types) (λ found. Done (document_read found.0) >>= λ document. Done (Ok (document, found.1)))
+    (EveryRun-more (ByResult (λ m c n found. Accepted s.settings image c found.0) (OwnCause s.settings image manifest_types)) (ByResult (λ m c n found. Accepted s.settings image c found.0) (ManifestCause s.settings image)) (pull_manifest_raw s image a manifest_types) (raw_causes s image a manifest_types) (raw_where s.settings image))
+    (λ m n c found h. EveryRun-step (λ start d o r. ByResult (λ m c n found. ReadLast s.settings image c found.0) (ManifestCause s.settings image) m (c ++ d) o r) (document_read found.0) (λ document. Done (Ok (document, found.1)))
+    (λ document is. EveryRun-done (λ start d o r. ByResult (λ m c n found. ReadLast s.settings image c found.0) (ManifestCause s.settings image) m (c ++ d) o r) (Ok (document, found.1)) (λ o. subst (λ x. ReadLast s.settings image x document) (sym (append-nil c)) (last_later (ManifestUrl s.settings image) (ManifestUrl s.settings image) (λ address answer. document_read answer.body ≡ Ok document) [] (λ act h. h) (λ address answer g. ap document_read (sym g.1) ∙ is) h)))
     (λ e is o. subst (λ x. ManifestCause s.settings image m x o e) (sym (append-nil c)) (document_refused (OwnDigest image) s.settings image manifest_types o c found.0 e h is)))

@@ -4,11 +4,11 @@ use Rattle.std.specs.Prelude.{if◌then◌else◌}
 use Rattle.oci_transport.specs.declared.message.Request.{Request}
 use Rattle.oci_transport.specs.declared.message.AnswerHead.{AnswerHead}
 use Rattle.oci_transport.specs.declared.message.Exchange.{Exchange}
-use Rattle.oci_auth.specs.declared.memory.Memory.{Memory}
+use Rattle.oci_auth.specs.declared.auth_state.AuthState.{AuthState}
 use Rattle.oci_protocol.specs.Proto.{Unread, limit_of, Reply, Headed, Answered, Failed, TooLong, SinkFailed, Done, ◌>>=◌}
 use Rattle.oci_protocol.specs.Runs.{head_part, Runs, Replies}
-use Rattle.oci_protocol.specs.Shows.{Shows, Heard}
-use Rattle.oci_protocol.proofs.RunFacts.{Shows-step, Shows-follow}
+use Rattle.oci_protocol.specs.EveryRun.{EveryRun, Heard}
+use Rattle.oci_protocol.proofs.RunFacts.{EveryRun-step, EveryRun-follow}
 use Rattle.engine_terms.specs.declared.settings.Settings.{Settings}
 use Rattle.engine_terms.specs.declared.error.OciDistributionError.{OciDistributionError}
 use Rattle.engine_requests.specs.declared.sources.Place.{Place}
@@ -68,7 +68,7 @@ heard_replies to limit digest request m c after last reply h = by_kind (replies_
   by_kind (inr r) = inr (record { redirects = h.redirects; exchange = h.exchange; split = h.split; left = h.left; before = h.before; trail = h.trail; replies = r; settles = h.settles })
 
 -- what comes after it
-passed_runs : (digest : List ℕ) (next : Row (List ℕ)) (last : Request) (reply : Reply) (k l : Memory) (m n : ℕ) (c : List Exchange) (r : Result (List ℕ) OciDistributionError) → IsPassed reply → Runs (offer_reply digest next last reply) k m c n l r → Runs next k m c n l r
+passed_runs : (digest : List ℕ) (next : Row (List ℕ)) (last : Request) (reply : Reply) (k l : AuthState) (m n : ℕ) (c : List Exchange) (r : Result (List ℕ) OciDistributionError) → IsPassed reply → Runs (offer_reply digest next last reply) k m c n l r → Runs next k m c n l r
 passed_runs digest next last (Headed head) k l m n c r bad run = rw (passed (is_error head.status) next (blob_reply digest last (Headed head)) bad) at run
 passed_runs digest next last (Answered answer) k l m n c r bad run = absurd bad
 passed_runs digest next last Failed k l m n c r bad run = absurd bad
@@ -76,11 +76,11 @@ passed_runs digest next last TooLong k l m n c r bad run = absurd bad
 passed_runs digest next last SinkFailed k l m n c r bad run = absurd bad
 
 -- a run from a reply that was not read because its status is 4xx or 5xx
-error_or_not : (digest : List ℕ) (next : Row (List ℕ)) (last : Request) (head : AnswerHead) (k l : Memory) (m n : ℕ) (c : List Exchange) (r : Result (List ℕ) OciDistributionError) (b : Bool) → is_error head.status ≡ b → Runs (offer_reply digest next last (Headed head)) k m c n l r → Runs next k m c n l r ⊎ Runs (blob_reply digest last (Headed head)) k m c n l r
+error_or_not : (digest : List ℕ) (next : Row (List ℕ)) (last : Request) (head : AnswerHead) (k l : AuthState) (m n : ℕ) (c : List Exchange) (r : Result (List ℕ) OciDistributionError) (b : Bool) → is_error head.status ≡ b → Runs (offer_reply digest next last (Headed head)) k m c n l r → Runs next k m c n l r ⊎ Runs (blob_reply digest last (Headed head)) k m c n l r
 error_or_not digest next last head k l m n c r true bad run = inl (rw (passed (is_error head.status) next (blob_reply digest last (Headed head)) bad) at run)
 error_or_not digest next last head k l m n c r false good run = inr (rw (not_passed (is_error head.status) next (blob_reply digest last (Headed head)) good) at run)
 
-either_runs : (digest : List ℕ) (next : Row (List ℕ)) (last : Request) (reply : Reply) (k l : Memory) (m n : ℕ) (c : List Exchange) (r : Result (List ℕ) OciDistributionError) → Runs (offer_reply digest next last reply) k m c n l r → Runs next k m c n l r ⊎ Runs (blob_reply digest last reply) k m c n l r
+either_runs : (digest : List ℕ) (next : Row (List ℕ)) (last : Request) (reply : Reply) (k l : AuthState) (m n : ℕ) (c : List Exchange) (r : Result (List ℕ) OciDistributionError) → Runs (offer_reply digest next last reply) k m c n l r → Runs next k m c n l r ⊎ Runs (blob_reply digest last reply) k m c n l r
 either_runs digest next last (Headed head) k l m n c r run = error_or_not digest next last head k l m n c r (is_error head.status) refl run
 either_runs digest next last (Answered answer) k l m n c r run = inr run
 either_runs digest next last Failed k l m n c r run = inr run
@@ -91,25 +91,25 @@ either_runs digest next last SinkFailed k l m n c r run = inr run
 
 -- what an attempt's last reply leads to
 abbrev pub Replied : (ℕ → List Exchange → ℕ → Result (List ℕ) OciDistributionError → Type 0) → Destination → ℕ → List ℕ → Request → Type 0
-Replied Q to limit digest request = (k l : Memory) (m after o : ℕ) (c d : List Exchange) (last : Request) (reply : Reply) (r : Result (List ℕ) OciDistributionError) → Heard 10 request (blob_reading to limit digest) m c after last reply → Runs (blob_reply digest last reply) k after d o l r → Q m (c ++ d) o r
+Replied Q to limit digest request = (k l : AuthState) (m after o : ℕ) (c d : List Exchange) (last : Request) (reply : Reply) (r : Result (List ℕ) OciDistributionError) → Heard 10 request (blob_reading to limit digest) m c after last reply → Runs (blob_reply digest last reply) k after d o l r → Q m (c ++ d) o r
 
 -- what holds for a run holds for it with exchanges before it
 abbrev pub Later : (ℕ → List Exchange → ℕ → Result (List ℕ) OciDistributionError → Type 0) → Type 0
 Later Q = (m start n : ℕ) (c d : List Exchange) (r : Result (List ℕ) OciDistributionError) → Q start d n r → Q m (c ++ d) n r
 
-attempt_law : (Q : ℕ → List Exchange → ℕ → Result (List ℕ) OciDistributionError → Type 0) (to : Destination) (limit : ℕ) (digest : List ℕ) (request : Request) → Replied Q to limit digest request → Shows Q (attempt to limit digest request)
+attempt_law : (Q : ℕ → List Exchange → ℕ → Result (List ℕ) OciDistributionError → Type 0) (to : Destination) (limit : ℕ) (digest : List ℕ) (request : Request) → Replied Q to limit digest request → EveryRun Q (attempt to limit digest request)
 unfolding attempt
-attempt_law Q to limit digest request each = Shows-follow Q 10 request (blob_reading to limit digest) (blob_reply digest) each
+attempt_law Q to limit digest request each = EveryRun-follow Q 10 request (blob_reading to limit digest) (blob_reply digest) each
 
-offer_law : (Q : ℕ → List Exchange → ℕ → Result (List ℕ) OciDistributionError → Type 0) (to : Destination) (limit : ℕ) (digest : List ℕ) (next : Row (List ℕ)) (request : Request) → Replied Q to limit digest request → Later Q → Shows Q next → Shows Q (offer to limit digest next request)
+offer_law : (Q : ℕ → List Exchange → ℕ → Result (List ℕ) OciDistributionError → Type 0) (to : Destination) (limit : ℕ) (digest : List ℕ) (next : Row (List ℕ)) (request : Request) → Replied Q to limit digest request → Later Q → EveryRun Q next → EveryRun Q (offer to limit digest next request)
 unfolding offer
-offer_law Q to limit digest next request each later rest = Shows-follow Q 10 request (offer_reading to limit digest) (offer_reply digest next) by_reply where
-  by_kind : (k l : Memory) (m after o : ℕ) (c d : List Exchange) (last : Request) (reply : Reply) (r : Result (List ℕ) OciDistributionError) → IsPassed reply ⊎ Heard 10 request (blob_reading to limit digest) m c after last reply → Runs next k after d o l r ⊎ Runs (blob_reply digest last reply) k after d o l r → (IsPassed reply → Runs next k after d o l r) → Q m (c ++ d) o r
+offer_law Q to limit digest next request each later rest = EveryRun-follow Q 10 request (offer_reading to limit digest) (offer_reply digest next) by_reply where
+  by_kind : (k l : AuthState) (m after o : ℕ) (c d : List Exchange) (last : Request) (reply : Reply) (r : Result (List ℕ) OciDistributionError) → IsPassed reply ⊎ Heard 10 request (blob_reading to limit digest) m c after last reply → Runs next k after d o l r ⊎ Runs (blob_reply digest last reply) k after d o l r → (IsPassed reply → Runs next k after d o l r) → Q m (c ++ d) o r
   by_kind k l m after o c d last reply r (inl bad) run from = later m after o c d r (rest.shows k l after o d r (from bad))
   by_kind k l m after o c d last reply r (inr h) (inl run) from = later m after o c d r (rest.shows k l after o d r run)
   by_kind k l m after o c d last reply r (inr h) (inr run) from = each k l m after o c d last reply r h run
 
-  by_reply : (k l : Memory) (m after o : ℕ) (c d : List Exchange) (last : Request) (reply : Reply) (r : Result (List ℕ) OciDistributionError) → Heard 10 request (offer_reading to limit digest) m c after last reply → Runs (offer_reply digest next last reply) k after d o l r → Q m (c ++ d) o r
+  by_reply : (k l : AuthState) (m after o : ℕ) (c d : List Exchange) (last : Request) (reply : Reply) (r : Result (List ℕ) OciDistributionError) → Heard 10 request (offer_reading to limit digest) m c after last reply → Runs (offer_reply digest next last reply) k after d o l r → Q m (c ++ d) o r
   by_reply k l m after o c d last reply r h run = by_kind k l m after o c d last reply r (heard_replies to limit digest request m c after last reply h) (either_runs digest next last reply k l after o d r run) (λ bad. passed_runs digest next last reply k l after o d r bad run)
 
 -- P holds for each place
@@ -127,8 +127,8 @@ Gives Good s p = (request : Request) → asked_at s p ≡ Ok request → Good re
 
 -- for the request and each place
 pub tried_law : (Q : ℕ → List Exchange → ℕ → Result (List ℕ) OciDistributionError → Type 0) (Good : Request → Type 0) (to : Destination) (s : Settings) (digest : List ℕ) → ((request : Request) → Good request → Replied Q to s.max_body_bytes digest request) → Later Q
-    → (places : List Place) → EachPlace (Gives Good s) places → EachPlace (Unasked Q s) places → (request : Request) → Good request → Shows Q (tried to s digest places request)
+    → (places : List Place) → EachPlace (Gives Good s) places → EachPlace (Unasked Q s) places → (request : Request) → Good request → EveryRun Q (tried to s digest places request)
 unfolding tried
 tried_law Q Good to s digest each later [] made unasked request good = attempt_law Q to s.max_body_bytes digest request (each request good)
 tried_law Q Good to s digest each later (p ∷ ps) made unasked request good = offer_law Q to s.max_body_bytes digest (Done (asked_at s p) >>= (λ next. tried to s digest ps next)) request (each request good) later
-    (Shows-step Q (asked_at s p) (λ next. tried to s digest ps next) (λ next is. tried_law Q Good to s digest each later ps made.1 unasked.1 next (made.0 next is)) (λ e is. unasked.0 e is))
+    (EveryRun-step Q (asked_at s p) (λ next. tried to s digest ps next) (λ next is. tried_law Q Good to s digest each later ps made.1 unasked.1 next (made.0 next is)) (λ e is. unasked.0 e is))

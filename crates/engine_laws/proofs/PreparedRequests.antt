@@ -18,8 +18,8 @@ use Rattle.oci_transport.specs.declared.message.Method.TheVariants.{Get}
 use Rattle.oci_names.specs.declared.reference.Reference.{Reference}
 use Rattle.oci_names.specs.Reference.{resolved_registry}
 use Rattle.oci_auth.specs.declared.auth.RegistryAuth.{RegistryAuth}
-use Rattle.oci_auth.specs.declared.memory.Memory.{Memory}
-use Rattle.oci_auth.specs.Memory.{stored}
+use Rattle.oci_auth.specs.declared.auth_state.AuthState.{AuthState}
+use Rattle.oci_auth.specs.AuthState.{stored}
 use Rattle.oci_auth.specs.Cache.{key_of, token_at}
 use Rattle.oci_auth.specs.Kept.{Key}
 use Rattle.oci_auth.specs.declared.auth.RegistryAuth.TheVariants as credentials
@@ -29,8 +29,8 @@ use Rattle.http_challenges.specs.declared.bearer.BearerChallenge.{BearerChalleng
 use Rattle.oci_protocol.specs.Proto.{Reading, read_within, Reply, Headed, Answered, Failed, TooLong, SinkFailed, read_none, Proto, Done, bind, unless_refused, ◌>>=◌}
 use Rattle.oci_protocol.specs.Follow.{Trail}
 use Rattle.oci_protocol.specs.Runs.{Runs, head_part}
-use Rattle.oci_protocol.specs.Shows.{Shows, ByAnswer, WhereOk, Heard}
-use Rattle.oci_protocol.proofs.RunFacts.{done_run, Shows-done, Shows-more, Shows-bind, Shows-next, Shows-step, Shows-last, Shows-recall, Shows-keep, Shows-follow}
+use Rattle.oci_protocol.specs.EveryRun.{EveryRun, ByResult, WhenOk, Heard}
+use Rattle.oci_protocol.proofs.RunFacts.{done_run, EveryRun-done, EveryRun-more, EveryRun-bind, EveryRun-next, EveryRun-step, EveryRun-last, EveryRun-recall, EveryRun-keep, EveryRun-follow}
 use Rattle.engine_terms.specs.Contexts.{Context}
 use Rattle.engine_terms.specs.declared.settings.Settings.{Settings}
 use Rattle.engine_terms.specs.declared.error.GenericCause.TheVariants.{HeaderText}
@@ -100,34 +100,34 @@ asks_of s method url types token request is =
 abbrev pub Silent : {A : Type 0} → ℕ → List Exchange → ℕ → A → Type 0
 Silent m c n a = c ≡ []
 
-pub silent_done : {A : Type 0} (a : A) → Shows {K = Memory} Silent (Done a)
-silent_done a = Shows-done Silent a (λ m. refl)
+pub silent_done : {A : Type 0} (a : A) → EveryRun {K = AuthState} Silent (Done a)
+silent_done a = EveryRun-done Silent a (λ m. refl)
 
-silent_recalled : Shows Silent recalled
-silent_recalled = Shows-recall Silent _ (λ k. silent_done (Ok k))
+silent_recalled : EveryRun Silent recalled
+silent_recalled = EveryRun-recall Silent _ (λ k. silent_done (Ok k))
 
-silent_taken : (moment : ℕ) (key : Key) (r : Result (Option RegistryTokenType) OciDistributionError) → Shows Silent (taken moment key r)
+silent_taken : (moment : ℕ) (key : Key) (r : Result (Option RegistryTokenType) OciDistributionError) → EveryRun Silent (taken moment key r)
 silent_taken moment key (Ok None) = silent_done (Ok None)
-silent_taken moment key (Ok (Some token)) = Shows-recall Silent _ (λ k. Shows-keep Silent (with_kept k key token moment) (Done (Ok (Some token))) (silent_done (Ok (Some token))))
+silent_taken moment key (Ok (Some token)) = EveryRun-recall Silent _ (λ k. EveryRun-keep Silent (with_kept k key token moment) (Done (Ok (Some token))) (silent_done (Ok (Some token))))
 silent_taken moment key (Err e) = silent_done (passed_over e)
 
 -- before the exchanges with P, and after them
-silent_first : (P : List Exchange → Type 0) {A B E : Type 0} (p : Proto Memory (Result A E)) (f : A → Proto Memory (Result B E)) → P [] → Shows Silent p → ((a : A) → Shows (λ m c n b. P c) (f a)) → Shows (λ m c n b. P c) (p >>= f)
-silent_first P {A} {B} {E} p f none first each = Shows-bind Silent (λ m c n b. P c) p (unless_refused f) first (λ m n c r h. Shows-more (λ s d o b. P d) (λ s d o b. P (c ++ d)) (unless_refused f r) (by_result r) (λ s o d b g. subst (λ (x : List Exchange). P (x ++ d)) (sym h) g)) where
-  by_result : (r : Result A E) → Shows (λ m c n b. P c) (unless_refused f r)
+silent_first : (P : List Exchange → Type 0) {A B E : Type 0} (p : Proto AuthState (Result A E)) (f : A → Proto AuthState (Result B E)) → P [] → EveryRun Silent p → ((a : A) → EveryRun (λ m c n b. P c) (f a)) → EveryRun (λ m c n b. P c) (p >>= f)
+silent_first P {A} {B} {E} p f none first each = EveryRun-bind Silent (λ m c n b. P c) p (unless_refused f) first (λ m n c r h. EveryRun-more (λ s d o b. P d) (λ s d o b. P (c ++ d)) (unless_refused f r) (by_result r) (λ s o d b g. subst (λ (x : List Exchange). P (x ++ d)) (sym h) g)) where
+  by_result : (r : Result A E) → EveryRun (λ m c n b. P c) (unless_refused f r)
   by_result (Ok a) = each a
-  by_result (Err e) = Shows-done (λ m c n b. P c) (Err e) (λ m. none)
+  by_result (Err e) = EveryRun-done (λ m c n b. P c) (Err e) (λ m. none)
 
-silent_last : (P : List Exchange → Type 0) {A B : Type 0} (p : Proto Memory A) (f : A → Proto Memory B) → Shows (λ m c n a. P c) p → ((a : A) → Shows Silent (f a)) → Shows (λ m c n b. P c) (bind p f)
-silent_last P p f first each = Shows-bind (λ m c n a. P c) (λ m c n b. P c) p f first (λ m n c a h. Shows-more Silent (λ s d o b. P (c ++ d)) (f a) (each a) (λ s o d b g. subst (λ (x : List Exchange). P (c ++ x)) (sym g) (subst P (sym (append-nil c)) h)))
+silent_last : (P : List Exchange → Type 0) {A B : Type 0} (p : Proto AuthState A) (f : A → Proto AuthState B) → EveryRun (λ m c n a. P c) p → ((a : A) → EveryRun Silent (f a)) → EveryRun (λ m c n b. P c) (bind p f)
+silent_last P p f first each = EveryRun-bind (λ m c n a. P c) (λ m c n b. P c) p f first (λ m n c a h. EveryRun-more Silent (λ s d o b. P (c ++ d)) (f a) (each a) (λ s o d b g. subst (λ (x : List Exchange). P (c ++ x)) (sym g) (subst P (sym (append-nil c)) h)))
 
-silent_unless : {A B E : Type 0} (f : A → Proto Memory (Result B E)) → ((a : A) → Shows Silent (f a)) → (r : Result A E) → Shows Silent (unless_refused f r)
+silent_unless : {A B E : Type 0} (f : A → Proto AuthState (Result B E)) → ((a : A) → EveryRun Silent (f a)) → (r : Result A E) → EveryRun Silent (unless_refused f r)
 silent_unless f each (Ok a) = each a
 silent_unless f each (Err e) = silent_done (Err e)
 
-pub silent_store : (image : Reference) (a : RegistryAuth) → Shows Silent (store image a)
+pub silent_store : (image : Reference) (a : RegistryAuth) → EveryRun Silent (store image a)
 unfolding store
-silent_store image a = silent_first (λ c. c ≡ []) recalled _ refl silent_recalled (λ k. Shows-keep Silent (stored k (resolved_registry image) a) (Done (Ok tt)) (silent_done (Ok tt)))
+silent_store image a = silent_first (λ c. c ≡ []) recalled _ refl silent_recalled (λ k. EveryRun-keep Silent (stored k (resolved_registry image) a) (Done (Ok tt)) (silent_done (Ok tt)))
 
 -- ---- one request whose redirects are not followed
 
@@ -156,9 +156,9 @@ record OneHead (request : Request) (c : List Exchange) (head : AnswerHead) : Typ
   head_is : head_part answer ≡ head
 
 abbrev HeadShown : Request → ℕ → List Exchange → ℕ → Result AnswerHead OciDistributionError → Type 0
-HeadShown request = ByAnswer (λ m c n head. OneHead request c head) (λ m c n e. One request c)
+HeadShown request = ByResult (λ m c n head. OneHead request c head) (λ m c n e. One request c)
 
-head_run : (request : Request) (k l : Memory) (m after o : ℕ) (c d : List Exchange) (last : Request) (reply : Reply) (r : Result AnswerHead OciDistributionError) → Heard 0 request read_none m c after last reply → Runs (head_reply last reply) k after d o l r → HeadShown request m (c ++ d) o r
+head_run : (request : Request) (k l : AuthState) (m after o : ℕ) (c d : List Exchange) (last : Request) (reply : Reply) (r : Result AnswerHead OciDistributionError) → Heard 0 request read_none m c after last reply → Runs (head_reply last reply) k after d o l r → HeadShown request m (c ++ d) o r
 head_run request k l m after o c d last (Headed head) r h run =
     let b = h.replies.reply_is in
     let one = one_heard request last m after c (Headed head) h in
@@ -168,21 +168,21 @@ head_run request k l m after o c d last Failed r h run = done_run (λ start d o 
 head_run request k l m after o c d last TooLong r h run = done_run (λ start d o r. HeadShown request m (c ++ d) o r) (Err refusal.TransportFault) k l after o d r (one_of request last m after c TooLong h) run
 head_run request k l m after o c d last SinkFailed r h run = done_run (λ start d o r. HeadShown request m (c ++ d) o r) (Err refusal.TransportFault) k l after o d r (one_of request last m after c SinkFailed h) run
 
-head_shown : (request : Request) → Shows (HeadShown request) (head_after 0 request)
+head_shown : (request : Request) → EveryRun (HeadShown request) (head_after 0 request)
 unfolding head_after
-head_shown request = Shows-follow (HeadShown request) 0 request read_none head_reply (head_run request)
+head_shown request = EveryRun-follow (HeadShown request) 0 request read_none head_reply (head_run request)
 
 -- the result of the reply sends no further request
-whole_silent : (last : Request) (reply : Reply) → Shows Silent (whole_reply last reply)
+whole_silent : (last : Request) (reply : Reply) → EveryRun Silent (whole_reply last reply)
 whole_silent last (Headed head) = silent_done _
 whole_silent last (Answered answer) = silent_done _
 whole_silent last Failed = silent_done _
 whole_silent last TooLong = silent_done _
 whole_silent last SinkFailed = silent_done _
 
-whole_shown : (request : Request) (limit : ℕ) → Shows (λ m c n r. One request c) (whole 0 request limit)
+whole_shown : (request : Request) (limit : ℕ) → EveryRun (λ m c n r. One request c) (whole 0 request limit)
 unfolding whole
-whole_shown request limit = Shows-follow (λ m c n r. One request c) 0 request (read_within limit) whole_reply (λ k l m after o c d last reply r h run. subst (λ (x : List Exchange). One request (c ++ x)) (sym ((whole_silent last reply).shows k l after o d r run)) (one_of request last m after c reply h))
+whole_shown request limit = EveryRun-follow (λ m c n r. One request c) 0 request (read_within limit) whole_reply (λ k l m after o c d last reply r h run. subst (λ (x : List Exchange). One request (c ++ x)) (sym ((whole_silent last reply).shows k l after o d r run)) (one_of request last m after c reply h))
 
 -- ---- the requests of the token step
 
@@ -199,17 +199,17 @@ Behind s image op w _ = ⊥
 realm_behind : (s : Settings) (image : Reference) (op : RegistryOperation) (challenge : BearerChallenge) (request : Request) (c : List Exchange) → AsksRealm s image op challenge request → One request c → Behind s image op (wants.Token challenge) c
 realm_behind s image op challenge request c asks one = subst (Behind s image op (wants.Token challenge)) (sym one.split) (challenge, refl, subst (AsksRealm s image op challenge) (sym one.request_is) asks)
 
-realm_shown : (s : Settings) (image : Reference) (a : RegistryAuth) (op : RegistryOperation) (challenge : BearerChallenge) → Shows (λ m c n r. Behind s image op (wants.Token challenge) c) (realm_asked s image a op challenge)
+realm_shown : (s : Settings) (image : Reference) (a : RegistryAuth) (op : RegistryOperation) (challenge : BearerChallenge) → EveryRun (λ m c n r. Behind s image op (wants.Token challenge) c) (realm_asked s image a op challenge)
 unfolding realm_asked
-realm_shown s image a op challenge = Shows-step (λ m c n r. B c) (url_read challenge.realm) _ (λ url read. Shows-step (λ m c n r. B c) (realm_request s image a op challenge.service url) _ (λ request made. silent_last B (whole 0 request s.max_body_bytes) (unless_refused (λ got. Done (token_read got.answer)))
-    (Shows-more (λ m c n r. One request c) (λ m c n r. B c) (whole 0 request s.max_body_bytes) (whole_shown request s.max_body_bytes) (λ m n c r one. realm_behind s image op challenge request c (record { url = url; address = url_some challenge.realm (request_url challenge.realm) url read; auth = a; made = made }) one))
+realm_shown s image a op challenge = EveryRun-step (λ m c n r. B c) (url_read challenge.realm) _ (λ url read. EveryRun-step (λ m c n r. B c) (realm_request s image a op challenge.service url) _ (λ request made. silent_last B (whole 0 request s.max_body_bytes) (unless_refused (λ got. Done (token_read got.answer)))
+    (EveryRun-more (λ m c n r. One request c) (λ m c n r. B c) (whole 0 request s.max_body_bytes) (whole_shown request s.max_body_bytes) (λ m n c r one. realm_behind s image op challenge request c (record { url = url; address = url_some challenge.realm (request_url challenge.realm) url read; auth = a; made = made }) one))
     (silent_unless (λ got. Done (token_read got.answer)) (λ got. silent_done (token_read got.answer)))) (λ e is m. tt)) (λ e is m. tt) where
       B : List Exchange → Type 0
       B = Behind s image op (wants.Token challenge)
 
-fetched_shown : (s : Settings) (image : Reference) (a : RegistryAuth) (op : RegistryOperation) (w : Wanted) → Shows (λ m c n r. Behind s image op w c) (fetched s image a op w)
-fetched_shown s image a op wants.Nothing = Shows-done (λ m c n r. Behind s image op wants.Nothing c) _ (λ m. tt)
-fetched_shown s image a op wants.Credentials = Shows-done (λ m c n r. Behind s image op wants.Credentials c) _ (λ m. tt)
+fetched_shown : (s : Settings) (image : Reference) (a : RegistryAuth) (op : RegistryOperation) (w : Wanted) → EveryRun (λ m c n r. Behind s image op w c) (fetched s image a op w)
+fetched_shown s image a op wants.Nothing = EveryRun-done (λ m c n r. Behind s image op wants.Nothing c) _ (λ m. tt)
+fetched_shown s image a op wants.Credentials = EveryRun-done (λ m c n r. Behind s image op wants.Credentials c) _ (λ m. tt)
 fetched_shown s image a op (wants.Token challenge) = realm_shown s image a op challenge
 
 behind_step : (s : Settings) (image : Reference) (op : RegistryOperation) (e : Exchange) (answer : Answer) (d : List Exchange) → AsksRegistry s image e.request → e.answer ≡ Some answer → Behind s image op (wanted (head_part answer)) d → OfTokenStep s image op (e ∷ d)
@@ -217,50 +217,50 @@ behind_step s image op e answer [] asks answered h = asks
 behind_step s image op e answer (f ∷ []) asks answered h = (asks, (answer, answered, h.0, h.1, h.2))
 behind_step s image op e answer (f ∷ (g ∷ d)) asks answered h = absurd h
 
-after_head : (s : Settings) (image : Reference) (a : RegistryAuth) (op : RegistryOperation) (request : Request) (m n : ℕ) (c : List Exchange) (r : Result AnswerHead OciDistributionError) → AsksRegistry s image request → HeadShown request m c n r → Shows (λ start d o t. OfTokenStep s image op (c ++ d)) (unless_refused (λ head. fetched s image a op (wanted head)) r)
-after_head s image a op request m n c (Ok head) asks h = Shows-more (λ start d o t. Behind s image op (wanted head) d) (λ start d o t. OfTokenStep s image op (c ++ d)) (fetched s image a op (wanted head)) (fetched_shown s image a op (wanted head))
+after_head : (s : Settings) (image : Reference) (a : RegistryAuth) (op : RegistryOperation) (request : Request) (m n : ℕ) (c : List Exchange) (r : Result AnswerHead OciDistributionError) → AsksRegistry s image request → HeadShown request m c n r → EveryRun (λ start d o t. OfTokenStep s image op (c ++ d)) (unless_refused (λ head. fetched s image a op (wanted head)) r)
+after_head s image a op request m n c (Ok head) asks h = EveryRun-more (λ start d o t. Behind s image op (wanted head) d) (λ start d o t. OfTokenStep s image op (c ++ d)) (fetched s image a op (wanted head)) (fetched_shown s image a op (wanted head))
     (λ start o d t g. subst (λ (x : List Exchange). OfTokenStep s image op (x ++ d)) (sym h.split) (behind_step s image op h.exchange h.answer d (subst (AsksRegistry s image) (sym h.request_is) asks) h.answered (subst (λ (x : AnswerHead). Behind s image op (wanted x) d) (sym h.head_is) g)))
-after_head s image a op request m n c (Err e) asks h = Shows-done (λ start d o t. OfTokenStep s image op (c ++ d)) (Err e) (λ start. subst (λ (x : List Exchange). OfTokenStep s image op (x ++ [])) (sym h.split) (subst (AsksRegistry s image) (sym h.request_is) asks))
+after_head s image a op request m n c (Err e) asks h = EveryRun-done (λ start d o t. OfTokenStep s image op (c ++ d)) (Err e) (λ start. subst (λ (x : List Exchange). OfTokenStep s image op (x ++ [])) (sym h.split) (subst (AsksRegistry s image) (sym h.request_is) asks))
 
 abbrev pub Stepped : Settings → Reference → RegistryOperation → {A : Type 0} → ℕ → List Exchange → ℕ → A → Type 0
 Stepped s image op m c n a = OfTokenStep s image op c
 
-stepped_registry : (s : Settings) (image : Reference) (a : RegistryAuth) (op : RegistryOperation) → Shows (Stepped s image op) (registry_asked s image a op)
+stepped_registry : (s : Settings) (image : Reference) (a : RegistryAuth) (op : RegistryOperation) → EveryRun (Stepped s image op) (registry_asked s image a op)
 unfolding registry_asked
-stepped_registry s image a op = Shows-step (Stepped s image op) (url_read (base_text s image)) _ (λ url read. Shows-step (Stepped s image op) (request_of s Get url None None) _ (λ request made. Shows-bind (HeadShown request) (Stepped s image op) (head_after 0 request) (unless_refused (λ head. fetched s image a op (wanted head))) (head_shown request)
+stepped_registry s image a op = EveryRun-step (Stepped s image op) (url_read (base_text s image)) _ (λ url read. EveryRun-step (Stepped s image op) (request_of s Get url None None) _ (λ request made. EveryRun-bind (HeadShown request) (Stepped s image op) (head_after 0 request) (unless_refused (λ head. fetched s image a op (wanted head))) (head_shown request)
     (λ m n c r h. after_head s image a op request m n c r (record { url = url; address = url_some (base_text s image) (request_url (base_text s image)) url read; made = made }) h)) (λ e is m. tt)) (λ e is m. tt)
 
-stepped_token : (s : Settings) (image : Reference) (a : RegistryAuth) (op : RegistryOperation) → Shows (Stepped s image op) (token_step s image a op)
-stepped_token s image (credentials.Bearer token) op = Shows-done (Stepped s image op) _ (λ m. tt)
+stepped_token : (s : Settings) (image : Reference) (a : RegistryAuth) (op : RegistryOperation) → EveryRun (Stepped s image op) (token_step s image a op)
+stepped_token s image (credentials.Bearer token) op = EveryRun-done (Stepped s image op) _ (λ m. tt)
 stepped_token s image (credentials.Basic user password) op = stepped_registry s image (credentials.Basic user password) op
 stepped_token s image credentials.Anonymous op = stepped_registry s image credentials.Anonymous op
 
-stepped_asked : (s : Context) (image : Reference) (op : RegistryOperation) (a : RegistryAuth) → Shows (Stepped s.settings image op) (token_asked s image op a)
+stepped_asked : (s : Context) (image : Reference) (op : RegistryOperation) (a : RegistryAuth) → EveryRun (Stepped s.settings image op) (token_asked s image op a)
 unfolding token_asked
 stepped_asked s image op a = silent_last (OfTokenStep s.settings image op) (token_step s.settings image a op) (taken s.moment (key_of image op)) (stepped_token s.settings image a op) (λ r. silent_taken s.moment (key_of image op) r)
 
-stepped_kept : (s : Context) (image : Reference) (op : RegistryOperation) (a : RegistryAuth) (kept : Option RegistryTokenType) → Shows (Stepped s.settings image op) (kept_or_asked s image op a kept)
-stepped_kept s image op a (Some token) = Shows-done (Stepped s.settings image op) (Ok (Some token)) (λ m. tt)
+stepped_kept : (s : Context) (image : Reference) (op : RegistryOperation) (a : RegistryAuth) (kept : Option RegistryTokenType) → EveryRun (Stepped s.settings image op) (kept_or_asked s image op a kept)
+stepped_kept s image op a (Some token) = EveryRun-done (Stepped s.settings image op) (Ok (Some token)) (λ m. tt)
 stepped_kept s image op a None = stepped_asked s image op a
 
-stepped_by : (s : Context) (image : Reference) (op : RegistryOperation) (a : Option RegistryAuth) (kept : Option RegistryTokenType) → Shows (Stepped s.settings image op) (token_by s image op a kept)
-stepped_by s image op None kept = Shows-done (Stepped s.settings image op) (Ok None) (λ m. tt)
+stepped_by : (s : Context) (image : Reference) (op : RegistryOperation) (a : Option RegistryAuth) (kept : Option RegistryTokenType) → EveryRun (Stepped s.settings image op) (token_by s image op a kept)
+stepped_by s image op None kept = EveryRun-done (Stepped s.settings image op) (Ok None) (λ m. tt)
 stepped_by s image op (Some a) kept = stepped_kept s image op a kept
 
-stepped_for : (s : Context) (image : Reference) (op : RegistryOperation) → Shows (Stepped s.settings image op) (token_for s image op)
+stepped_for : (s : Context) (image : Reference) (op : RegistryOperation) → EveryRun (Stepped s.settings image op) (token_for s image op)
 unfolding token_for
 stepped_for s image op = silent_first (OfTokenStep s.settings image op) recalled _ tt silent_recalled (λ k. stepped_by s image op (map.get k.credentials (resolved_registry image)) (token_at k.tokens (key_of image op) s.moment))
 
-stepped_where : (s : Context) (image : Reference) (op : RegistryOperation) (b : Bool) → Shows (Stepped s.settings image op) (token_where s image op b)
+stepped_where : (s : Context) (image : Reference) (op : RegistryOperation) (b : Bool) → EveryRun (Stepped s.settings image op) (token_where s image op b)
 stepped_where s image op true = stepped_for s image op
-stepped_where s image op false = Shows-done (Stepped s.settings image op) (Ok None) (λ m. tt)
+stepped_where s image op false = EveryRun-done (Stepped s.settings image op) (Ok None) (λ m. tt)
 
-pub stepped_authorized : (s : Context) (image : Reference) (op : RegistryOperation) (url : Parts) → Shows (Stepped s.settings image op) (authorized s image op url)
+pub stepped_authorized : (s : Context) (image : Reference) (op : RegistryOperation) (url : Parts) → EveryRun (Stepped s.settings image op) (authorized s image op url)
 unfolding authorized
-stepped_authorized s image op url = Shows-step (Stepped s.settings image op) (url_read (registry_text s.settings image)) _ (λ registry is. stepped_where s image op (goes_to (request_url (serialize url)) registry)) (λ e is m. tt)
+stepped_authorized s image op url = EveryRun-step (Stepped s.settings image op) (url_read (registry_text s.settings image)) _ (λ registry is. stepped_where s image op (goes_to (request_url (serialize url)) registry)) (λ e is m. tt)
 
 -- the same, with refusals unspecified
-stepped_ok : (s : Settings) (image : Reference) (op : RegistryOperation) {A E : Type 0} (m n : ℕ) (c : List Exchange) (r : Result A E) → OfTokenStep s image op c → WhereOk (λ m c n a. OfTokenStep s image op c) m c n r
+stepped_ok : (s : Settings) (image : Reference) (op : RegistryOperation) {A E : Type 0} (m n : ℕ) (c : List Exchange) (r : Result A E) → OfTokenStep s image op c → WhenOk (λ m c n a. OfTokenStep s image op c) m c n r
 stepped_ok s image op m n c (Ok a) h = h
 stepped_ok s image op m n c (Err e) h = tt
 
@@ -270,9 +270,9 @@ pub record Prepared (s : Settings) (image : Reference) (op : RegistryOperation) 
   pub token : Option RegistryTokenType
   pub made : request_of s method url (Some types) token ≡ Ok request
 
-pub prepared_shows : (s : Context) (image : Reference) (op : RegistryOperation) (method : Method) (url : Parts) (types : List ℕ) → Shows (WhereOk (λ m c n request. Prepared s.settings image op method url types c request)) (prepared s image op method url types)
+pub prepared_shows : (s : Context) (image : Reference) (op : RegistryOperation) (method : Method) (url : Parts) (types : List ℕ) → EveryRun (WhenOk (λ m c n request. Prepared s.settings image op method url types c request)) (prepared s image op method url types)
 unfolding prepared
 prepared_shows s image op method url types =
-    Shows-next (λ m c n token. OfTokenStep s.settings image op c) (λ m c n request. Prepared s.settings image op method url types c request) (authorized s image op url) (λ token. Done (request_of s.settings method url (Some types) token))
-    (Shows-more (Stepped s.settings image op) (WhereOk (λ m c n token. OfTokenStep s.settings image op c)) (authorized s image op url) (stepped_authorized s image op url) (stepped_ok s.settings image op))
-    (λ m n c token h. Shows-last (λ start d o request. Prepared s.settings image op method url types (c ++ d) request) (λ start d o e. Unit {0}) (request_of s.settings method url (Some types) token) (λ request is o. record { step = subst (OfTokenStep s.settings image op) (sym (append-nil c)) h; token = token; made = is }) (λ e is o. tt))
+    EveryRun-next (λ m c n token. OfTokenStep s.settings image op c) (λ m c n request. Prepared s.settings image op method url types c request) (authorized s image op url) (λ token. Done (request_of s.settings method url (Some types) token))
+    (EveryRun-more (Stepped s.settings image op) (WhenOk (λ m c n token. OfTokenStep s.settings image op c)) (authorized s image op url) (stepped_authorized s image op url) (stepped_ok s.settings image op))
+    (λ m n c token h. EveryRun-last (λ start d o request. Prepared s.settings image op method url types (c ++ d) request) (λ start d o e. Unit {0}) (request_of s.settings method url (Some types) token) (λ request is o. record { step = subst (OfTokenStep s.settings image op) (sym (append-nil c)) h; token = token; made = is }) (λ e is o. tt))

@@ -8,8 +8,8 @@ use Rattle.oci_transport.specs.declared.message.Request.{Request}
 use Rattle.oci_names.specs.declared.reference.Reference.{Reference}
 use Rattle.oci_auth.specs.declared.token_type.RegistryOperation.TheVariants.{Pull}
 use Rattle.oci_protocol.specs.Proto.{Done, ◌>>=◌}
-use Rattle.oci_protocol.specs.Shows.{Shows, ByAnswer}
-use Rattle.oci_protocol.proofs.RunFacts.{Shows-done, Shows-more, Shows-each, Shows-step}
+use Rattle.oci_protocol.specs.EveryRun.{EveryRun, ByResult}
+use Rattle.oci_protocol.proofs.RunFacts.{EveryRun-done, EveryRun-more, EveryRun-each, EveryRun-step}
 use Rattle.engine_terms.specs.Contexts.{Context}
 use Rattle.engine_requests.specs.Addresses.{manifest_text, url_read}
 use Rattle.engine_answers.specs.Documents.{document_read}
@@ -36,7 +36,7 @@ ListLoose s image digest c n e = Loose (ListUrl s image digest) ListAnswer s man
 
 -- the whole last response, or a cause of the list's
 abbrev pub Listed : Settings → Reference → List ℕ → ℕ → List Exchange → ℕ → Result Got OciDistributionError → Type 0
-Listed s image digest = ByAnswer (λ m c n got. LastAnswer (ListUrl s image digest) c got.url got.answer) (λ m c n e. ListLoose s image digest c n e)
+Listed s image digest = ByResult (λ m c n got. LastAnswer (ListUrl s image digest) c got.url got.answer) (λ m c n e. ListLoose s image digest c n e)
 
 listed_later : (s : Settings) (image : Reference) (digest : List ℕ) (c : List Exchange) (m start o : ℕ) (d : List Exchange) (r : Result Got OciDistributionError) → Listed s image digest start d o r → Listed s image digest m (c ++ d) o r
 listed_later s image digest c m start o d (Ok got) h = answer_later (ListUrl s image digest) (ListUrl s image digest) c (λ act h. h) h
@@ -56,26 +56,26 @@ list_own s image digest kind url c request is p = by_step (into_ok (url_read (re
       let same : with_artifact_type kind base ≡ url = cc made in
       (base, url_is (referrers_text s image digest) (request_url (referrers_text s image digest)) base read, kind, subst (λ (u : Parts). AsksAt s u request) (sym same) (asks_at s image Pull Get url manifest_types c request p))
 
-pub asked_causes : (s : Context) (image : Reference) (digest : List ℕ) (kind : Option (List ℕ)) → Shows (Listed s.settings image digest) (referrers_asked s image digest kind)
+pub asked_causes : (s : Context) (image : Reference) (digest : List ℕ) (kind : Option (List ℕ)) → EveryRun (Listed s.settings image digest) (referrers_asked s image digest kind)
 unfolding referrers_asked
-asked_causes s image digest kind = Shows-step (Listed s.settings image digest) (referrers_url s.settings image digest kind) (λ url. prepared s image Pull Get url manifest_types >>= λ request. whole 10 request s.settings.max_body_bytes)
-    (λ url is. Shows-each (λ m c n request. Prepared s.settings image Pull Get url manifest_types c request) (λ m c n got. LastAnswer (ListUrl s.settings image digest) c got.url got.answer) (λ m c n e. ListLoose s.settings image digest c n e) (prepared s image Pull Get url manifest_types) (λ request. whole 10 request s.settings.max_body_bytes)
+asked_causes s image digest kind = EveryRun-step (Listed s.settings image digest) (referrers_url s.settings image digest kind) (λ url. prepared s image Pull Get url manifest_types >>= λ request. whole 10 request s.settings.max_body_bytes)
+    (λ url is. EveryRun-each (λ m c n request. Prepared s.settings image Pull Get url manifest_types c request) (λ m c n got. LastAnswer (ListUrl s.settings image digest) c got.url got.answer) (λ m c n e. ListLoose s.settings image digest c n e) (prepared s image Pull Get url manifest_types) (λ request. whole 10 request s.settings.max_body_bytes)
     (early_shown (ListUrl s.settings image digest) ListAnswer s.settings manifest_types (λ m c n request. Prepared s.settings image Pull Get url manifest_types c request) (prepared s image Pull Get url manifest_types) (prepared_causes (ListUrl s.settings image digest) s image Pull Get url manifest_types (inl refl)))
-    (λ m n c request p. Shows-more (Listed s.settings image digest) (λ start d o r. Listed s.settings image digest m (c ++ d) o r) (whole 10 request s.settings.max_body_bytes) (whole_causes (ListUrl s.settings image digest) ListAnswer s.settings manifest_types request (list_own s.settings image digest kind url c request is p)) (λ start o d r h. listed_later s.settings image digest c m start o d r h)))
+    (λ m n c request p. EveryRun-more (Listed s.settings image digest) (λ start d o r. Listed s.settings image digest m (c ++ d) o r) (whole 10 request s.settings.max_body_bytes) (whole_causes (ListUrl s.settings image digest) ListAnswer s.settings manifest_types request (list_own s.settings image digest kind url c request is p)) (λ start o d r h. listed_later s.settings image digest c m start o d r h)))
     (λ e is m. url_refused s.settings image digest kind [] m e is)
 
 -- ---- the tag
 
-document_shown : (s : Context) (image : Reference) (types : List ℕ) → Shows (ByAnswer (λ m c n found. Accepted s.settings image c found.0) (OwnCause s.settings image types)) (manifest_document s image types)
+document_shown : (s : Context) (image : Reference) (types : List ℕ) → EveryRun (ByResult (λ m c n found. Accepted s.settings image c found.0) (OwnCause s.settings image types)) (manifest_document s image types)
 unfolding manifest_document
-document_shown s image types = Shows-step (ByAnswer (λ m c n found. Accepted s.settings image c found.0) (OwnCause s.settings image types)) (url_read (manifest_text s.settings image)) (λ url. document s image url types)
+document_shown s image types = EveryRun-step (ByResult (λ m c n found. Accepted s.settings image c found.0) (OwnCause s.settings image types)) (url_read (manifest_text s.settings image)) (λ url. document s image url types)
     (λ url is. document_causes s image url types is)
     (λ e is m. url_cause (ManifestUrl s.settings image) (AnswerCause (OwnDigest image)) s.settings types (manifest_text s.settings image) m [] e (inr refl) is)
 
-pub manifest_shown : (s : Context) (image : Reference) → Shows (ByAnswer (λ m c n found. ReadLast s.settings image c found.0) (ManifestCause s.settings image)) (manifest_asked s image)
+pub manifest_shown : (s : Context) (image : Reference) → EveryRun (ByResult (λ m c n found. ReadLast s.settings image c found.0) (ManifestCause s.settings image)) (manifest_asked s image)
 unfolding manifest_asked
-manifest_shown s image = Shows-each (λ m c n found. Accepted s.settings image c found.0) (λ m c n found. ReadLast s.settings image c found.0) (ManifestCause s.settings image) (manifest_document s image manifest_types) (λ found. Done (document_read found.0) >>= λ document. Done (Ok (document, found.1)))
-    (Shows-more (ByAnswer (λ m c n found. Accepted s.settings image c found.0) (OwnCause s.settings image manifest_types)) (ByAnswer (λ m c n found. Accepted s.settings image c found.0) (ManifestCause s.settings image)) (manifest_document s image manifest_types) (document_shown s image manifest_types) (raw_where s.settings image))
-    (λ m n c found h. Shows-step (λ start d o r. ByAnswer (λ m c n found. ReadLast s.settings image c found.0) (ManifestCause s.settings image) m (c ++ d) o r) (document_read found.0) (λ document. Done (Ok (document, found.1)))
-    (λ document is. Shows-done (λ start d o r. ByAnswer (λ m c n found. ReadLast s.settings image c found.0) (ManifestCause s.settings image) m (c ++ d) o r) (Ok (document, found.1)) (λ o. subst (λ x. ReadLast s.settings image x document) (sym (append-nil c)) (last_later (ManifestUrl s.settings image) (ManifestUrl s.settings image) (λ address answer. document_read answer.body ≡ Ok document) [] (λ act h. h) (λ address answer g. ap document_read (sym g.1) ∙ is) h)))
+manifest_shown s image = EveryRun-each (λ m c n found. Accepted s.settings image c found.0) (λ m c n found. ReadLast s.settings image c found.0) (ManifestCause s.settings image) (manifest_document s image manifest_types) (λ found. Done (document_read found.0) >>= λ document. Done (Ok (document, found.1)))
+    (EveryRun-more (ByResult (λ m c n found. Accepted s.settings image c found.0) (OwnCause s.settings image manifest_types)) (ByResult (λ m c n found. Accepted s.settings image c found.0) (ManifestCause s.settings image)) (manifest_document s image manifest_types) (document_shown s image manifest_types) (raw_where s.settings image))
+    (λ m n c found h. EveryRun-step (λ start d o r. ByResult (λ m c n found. ReadLast s.settings image c found.0) (ManifestCause s.settings image) m (c ++ d) o r) (document_read found.0) (λ document. Done (Ok (document, found.1)))
+    (λ document is. EveryRun-done (λ start d o r. ByResult (λ m c n found. ReadLast s.settings image c found.0) (ManifestCause s.settings image) m (c ++ d) o r) (Ok (document, found.1)) (λ o. subst (λ x. ReadLast s.settings image x document) (sym (append-nil c)) (last_later (ManifestUrl s.settings image) (ManifestUrl s.settings image) (λ address answer. document_read answer.body ≡ Ok document) [] (λ act h. h) (λ address answer g. ap document_read (sym g.1) ∙ is) h)))
     (λ e is o. subst (λ x. ManifestCause s.settings image m x o e) (sym (append-nil c)) (document_refused (OwnDigest image) s.settings image manifest_types o c found.0 e h is)))

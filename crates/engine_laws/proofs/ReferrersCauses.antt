@@ -1,22 +1,22 @@
 -- Why calls for referrers were refused.
 use Rattle.std.proofs.Common.{◌≡◌, ◌≢◌, ◌⊎◌, inl, inr, ℕ, Bool, true, false, List, [], ◌∷◌, ◌++◌, Option, Some, None, Result, Ok, Err, IfErr, refl, sym, ap, subst, ◌∙◌, append-nil}
 use Rattle.std.specs.Prelude.{MatchBool, if◌then◌else◌, nat_eq}
-use Rattle.json_values.specs.Counts.{Rose}
+use Rattle.json_values.specs.Counts.{Increased}
 use Rattle.json_values.specs.JsonText.{json_of}
 use Rattle.oci_transport.specs.Link.{Link}
 use Rattle.oci_transport.specs.declared.message.Answer.{Answer}
 use Rattle.oci_transport.specs.declared.message.Exchange.{Exchange}
 use Rattle.oci_names.specs.declared.reference.Reference.{Reference}
 use Rattle.oci_names.specs.Reference.{digest_of}
-use Rattle.oci_auth.specs.declared.memory.Memory.{Memory}
+use Rattle.oci_auth.specs.declared.auth_state.AuthState.{AuthState}
 use Rattle.oci_manifests.specs.Document.{document_of}
 use Rattle.oci_errors.specs.declared.envelope.OciEnvelope.{OciEnvelope}
 use Rattle.oci_manifests.specs.declared.document.OciManifest.{OciManifest}
 use Rattle.oci_manifests.specs.declared.document.OciManifest.TheVariants.{Image, ImageIndex}
 use Rattle.oci_manifests.specs.declared.index.OciImageIndex.{OciImageIndex}
 use Rattle.oci_protocol.specs.Proto.{Done, bind, unless_refused, ◌>>=◌}
-use Rattle.oci_protocol.specs.Runs.{Runs, Performs, Breaks, Outcome, Meets, Told}
-use Rattle.oci_protocol.specs.Shows.{Shows, ByAnswer}
+use Rattle.oci_protocol.specs.Runs.{Runs, Performs, PerformsPrefix, Outcome, Meets, Told}
+use Rattle.oci_protocol.specs.EveryRun.{EveryRun, ByResult}
 use Rattle.oci_protocol.specs.Ends.{Ends}
 use Rattle.oci_protocol.proofs.SafeEnds.{Runs-ends-safe}
 use Rattle.oci_protocol.proofs.Parts.{Parts, Runs-parts}
@@ -143,7 +143,7 @@ tag_tight T image digest y s n c (refusal.SpecViolationError (ReferrersTag tag))
 tag_tight T image digest y s n c e other h bad = record { address = h.address; answer = h.answer; last = h.last; holds = (other, h.holds) }
 
 -- the exchanges of a run that is done, its fault count and its result
-runs_done : {A : Type 0} (x : A) (k : Memory) (m : ℕ) (c : List Exchange) (n : ℕ) (l : Memory) (a : A) → Runs (Done x) k m c n l a → (c ≡ []) × (m ≡ n) × (x ≡ a)
+runs_done : {A : Type 0} (x : A) (k : AuthState) (m : ℕ) (c : List Exchange) (n : ℕ) (l : AuthState) (a : A) → Runs (Done x) k m c n l a → (c ≡ []) × (m ≡ n) × (x ≡ a)
 unfolding Runs
 runs_done x k m [] n l a r = (refl, r.0, r.2)
 runs_done x k m (e ∷ c) n l a r = absurd r
@@ -152,13 +152,13 @@ runs_done x k m (e ∷ c) n l a r = absurd r
 whole_cause : (P : List Exchange → ℕ → Type 0) (c first second : List Exchange) (m n : ℕ) → c ≡ first ++ second → second ≡ [] → m ≡ n → P first m → P c n
 whole_cause P c first second m n joined none same h = subst (λ z. P c z) same (subst (λ z. P z m) (sym (joined ∙ ap (λ z. first ++ z) none ∙ append-nil first)) h)
 
-tag_holds : (x : Entry) (s : Settings) (digest : List ℕ) (kind : Option (List ℕ)) (between : Memory) (n : ℕ) (c : List Exchange) (document : OciManifest) (e : OciDistributionError) → ReadLast s (fallback_reference x.image digest) c document → tag_index digest kind document ≡ Err e → TagCause x s n e digest between c
+tag_holds : (x : Entry) (s : Settings) (digest : List ℕ) (kind : Option (List ℕ)) (between : AuthState) (n : ℕ) (c : List Exchange) (document : OciManifest) (e : OciDistributionError) → ReadLast s (fallback_reference x.image digest) c document → tag_index digest kind document ≡ Err e → TagCause x s n e digest between c
 tag_holds x s digest kind between n c (ImageIndex index) e last is = absurd (cc is)
 tag_holds x s digest kind between n c (Image manifest) e last is =
     let same : refusal.SpecViolationError (ReferrersTag (referrers_tag digest)) ≡ e = cc is in
     subst (λ z. TagCause x s n z digest between c) same (record { address = last.address; answer = last.answer; last = last.last; holds = (refl, manifest, last.holds) })
 
-tag_runs : (k : Memory) (s : Context) (image : Reference) (digest : List ℕ) (kind : Option (List ℕ)) (j l : Memory) (m n : ℕ) (c : List Exchange) (e : OciDistributionError) → Runs (referrers_tagged s image digest kind) j m c n l (Err e) → TagCause (pulling k s image None) s.settings n e digest j c
+tag_runs : (k : AuthState) (s : Context) (image : Reference) (digest : List ℕ) (kind : Option (List ℕ)) (j l : AuthState) (m n : ℕ) (c : List Exchange) (e : OciDistributionError) → Runs (referrers_tagged s image digest kind) j m c n l (Err e) → TagCause (pulling k s image None) s.settings n e digest j c
 unfolding referrers_tagged
 tag_runs k s image digest kind j l m n c e run = by_answer parts.answer parts.runs_first (runs_done (tagged_index digest kind parts.answer) parts.between parts.count parts.second n l (Err e) parts.runs_second) where
   tag : Reference
@@ -194,7 +194,7 @@ from_tag x s c n (refusal.GenericError NoDigest) h = absurd h.after.holds.1
 from_tag x s c n refusal.WantOfMemory h = tt
 from_tag x s c n e h = inr h
 
-with_digest : (k : Memory) (s : Context) (image : Reference) (digest : List ℕ) (kind : Option (List ℕ)) (l : Memory) (m n : ℕ) (c : List Exchange) (e : OciDistributionError) → digest_of image ≡ Some digest → Runs (referrers_asked s image digest kind >>= referrers_by s image digest kind) k m c n l (Err e) → ReferrersCause (pulling k s image None) s.settings c n e
+with_digest : (k : AuthState) (s : Context) (image : Reference) (digest : List ℕ) (kind : Option (List ℕ)) (l : AuthState) (m n : ℕ) (c : List Exchange) (e : OciDistributionError) → digest_of image ≡ Some digest → Runs (referrers_asked s image digest kind >>= referrers_by s image digest kind) k m c n l (Err e) → ReferrersCause (pulling k s image None) s.settings c n e
 with_digest k s image digest kind l m n c e digest_is run = by_answer parts.answer parts.runs_first parts.runs_second where
   x : Entry
   x = pulling k s image None
@@ -235,7 +235,7 @@ with_digest k s image digest kind l m n c e digest_is run = by_answer parts.answ
   by_answer (Ok got) runs rest = by_status got (nat_eq got.answer.status 404) refl runs rest
   by_answer (Err e2) runs rest = refused e2 runs (runs_done (Err e2) parts.between parts.count parts.second n l (Err e) rest)
 
-runs_cause : (k : Memory) (s : Context) (image : Reference) (kind : Option (List ℕ)) (l : Memory) (m n : ℕ) (c : List Exchange) (e : OciDistributionError) → Runs (pull_referrers s image kind) k m c n l (Err e) → ReferrersCause (pulling k s image None) s.settings c n e
+runs_cause : (k : AuthState) (s : Context) (image : Reference) (kind : Option (List ℕ)) (l : AuthState) (m n : ℕ) (c : List Exchange) (e : OciDistributionError) → Runs (pull_referrers s image kind) k m c n l (Err e) → ReferrersCause (pulling k s image None) s.settings c n e
 unfolding pull_referrers bind
 runs_cause k s image kind l m n c e run = by_digest (digest_of image) refl run where
   by_digest : (o : Option (List ℕ)) → digest_of image ≡ o → Runs (Done (digest_given o) >>= λ digest. referrers_asked s image digest kind >>= referrers_by s image digest kind) k m c n l (Err e) → ReferrersCause (pulling k s image None) s.settings c n e
@@ -247,11 +247,11 @@ runs_cause k s image kind l m n c e run = by_digest (digest_of image) refl run w
 
 -- by the client state when the call began
 abbrev pub RowCause : Context → Reference → ℕ → List Exchange → ℕ → OciDistributionError → Type 0
-RowCause s image m c n e = (k : Memory) × ReferrersCause (pulling k s image None) s.settings c n e
+RowCause s image m c n e = (k : AuthState) × ReferrersCause (pulling k s image None) s.settings c n e
 
-pub referrers_causes : (s : Context) (image : Reference) (kind : Option (List ℕ)) → Shows (ByAnswer (λ m c n index. Unit {0}) (RowCause s image)) (pull_referrers s image kind)
+pub referrers_causes : (s : Context) (image : Reference) (kind : Option (List ℕ)) → EveryRun (ByResult (λ m c n index. Unit {0}) (RowCause s image)) (pull_referrers s image kind)
 referrers_causes s image kind = record { shows = λ k l m n c r run. by_result k l m n c r run } where
-  by_result : (k l : Memory) (m n : ℕ) (c : List Exchange) (r : Result OciImageIndex OciDistributionError) → Runs (pull_referrers s image kind) k m c n l r → ByAnswer (λ m c n index. Unit {0}) (RowCause s image) m c n r
+  by_result : (k l : AuthState) (m n : ℕ) (c : List Exchange) (r : Result OciImageIndex OciDistributionError) → Runs (pull_referrers s image kind) k m c n l r → ByResult (λ m c n index. Unit {0}) (RowCause s image) m c n r
   by_result k l m n c (Ok index) run = tt
   by_result k l m n c (Err e) run = (k, runs_cause k s image kind l m n c e run)
 
@@ -264,9 +264,9 @@ cause_free : (x : Entry) (s : Settings) (c : List Exchange) (n : ℕ) (e : OciDi
 cause_free x s c n refusal.WantOfMemory is = tt
 cause_free x s c n _ is = absurd (cc is)
 
-pub referrers_reason : (s : Context) (image : Reference) (kind : Option (List ℕ)) {old new : Link} {k l : Memory} {r : Result OciImageIndex OciDistributionError} → Meets is_memory (pull_referrers s image kind) old new k l r → IfErr r (λ e. Told (λ c. ReferrersCause (pulling k s image None) s.settings c new.faults e) old new)
+pub referrers_reason : (s : Context) (image : Reference) (kind : Option (List ℕ)) {old new : Link} {k l : AuthState} {r : Result OciImageIndex OciDistributionError} → Meets is_memory (pull_referrers s image kind) old new k l r → IfErr r (λ e. Told (λ c. ReferrersCause (pulling k s image None) s.settings c new.faults e) old new)
 referrers_reason s image kind {old} {new} {k} {l} {r} met = by_result r met.outcome where
-  by_memory : (b : Bool) (e : OciDistributionError) → is_memory e ≡ b → MatchBool b (Breaks (pull_referrers s image kind) old new k l) (Performs (pull_referrers s image kind) old new k l (Err e)) → Told (λ c. ReferrersCause (pulling k s image None) s.settings c new.faults e) old new
+  by_memory : (b : Bool) (e : OciDistributionError) → is_memory e ≡ b → MatchBool b (PerformsPrefix (pull_referrers s image kind) old new k l) (Performs (pull_referrers s image kind) old new k l (Err e)) → Told (λ c. ReferrersCause (pulling k s image None) s.settings c new.faults e) old new
   by_memory true e is run = record { conversation = run.conversation; told = run.told; holds = cause_free (pulling k s image None) s.settings run.conversation new.faults e is }
   by_memory false e is run = record { conversation = run.conversation; told = run.told; holds = runs_cause k s image kind l old.faults new.faults run.conversation e run.runs }
 
@@ -274,11 +274,11 @@ referrers_reason s image kind {old} {new} {k} {l} {r} met = by_result r met.outc
   by_result (Ok index) run = tt
   by_result (Err e) run = by_memory (is_memory e) e refl run
 
-failed : (x : Entry) (s : Settings) (c : List Exchange) (n : ℕ) → ReferrersCause x s c n refusal.TransportFault → LastIs (λ e. Rose e.faults n) c
+failed : (x : Entry) (s : Settings) (c : List Exchange) (n : ℕ) → ReferrersCause x s c n refusal.TransportFault → LastIs (λ e. Increased e.faults n) c
 failed x s c n (inl h) = failed_last h.cause
-failed x s c n (inr h) = subst (LastIs (λ e. Rose e.faults n)) (sym h.split) (last_after h.front (failed_last h.after))
+failed x s c n (inr h) = subst (LastIs (λ e. Increased e.faults n)) (sym h.split) (last_after h.front (failed_last h.after))
 
-pub referrers_fault : (s : Context) (image : Reference) (kind : Option (List ℕ)) {old new : Link} {k l : Memory} {r : Result OciImageIndex OciDistributionError} → Meets is_memory (pull_referrers s image kind) old new k l r → r ≡ Err refusal.TransportFault → Rose old.faults new.faults
+pub referrers_fault : (s : Context) (image : Reference) (kind : Option (List ℕ)) {old new : Link} {k l : AuthState} {r : Result OciImageIndex OciDistributionError} → Meets is_memory (pull_referrers s image kind) old new k l r → r ≡ Err refusal.TransportFault → Increased old.faults new.faults
 referrers_fault s image kind {r = r} met is = fault_last (λ m c n index. Unit {0}) (RowCause s image) (pull_referrers s image kind) refusal.TransportFault refl (λ m n c h. failed (pulling h.0 s image None) s.settings c n h.1) (referrers_causes s image kind) (rw is at met)
 
 -- a reference without a digest is refused as such

@@ -7,7 +7,7 @@ use Rattle.oci_transport.specs.declared.message.Method.TheVariants.{Get}
 use Rattle.oci_names.specs.declared.reference.Reference.{Reference}
 use Rattle.oci_names.specs.Reference.{digest_of}
 use Rattle.oci_auth.specs.declared.auth.RegistryAuth.{RegistryAuth}
-use Rattle.oci_auth.specs.declared.memory.Memory.{Memory}
+use Rattle.oci_auth.specs.declared.auth_state.AuthState.{AuthState}
 use Rattle.oci_auth.specs.declared.token_type.RegistryOperation.TheVariants.{Pull}
 use Rattle.oci_manifests.specs.declared.index.OciImageIndex.{OciImageIndex}
 use Rattle.oci_protocol.specs.Proto.{Done, bind, unless_refused, ◌>>=◌}
@@ -44,7 +44,7 @@ use Rattle.engine_laws.proofs.ShownTokens.{Carries, Ended, safe_done, safe_next,
 -- ---- the walk
 
 -- the call for the list
-pub asked_sound : (s : Context) (image : Reference) (digest : List ℕ) (kind : Option (List ℕ)) (k : Memory) (handed : Option RegistryAuth) (l : Memory) (c : List Exchange) → Keeps (pulling k s image handed) l c → Sound (pulling k s image handed) s.settings manifest_types l c (referrers_asked s image digest kind)
+pub asked_sound : (s : Context) (image : Reference) (digest : List ℕ) (kind : Option (List ℕ)) (k : AuthState) (handed : Option RegistryAuth) (l : AuthState) (c : List Exchange) → Keeps (pulling k s image handed) l c → Sound (pulling k s image handed) s.settings manifest_types l c (referrers_asked s image digest kind)
 unfolding referrers_asked
 asked_sound s image digest kind k handed l c keeps =
     let x = pulling k s image handed in
@@ -52,7 +52,7 @@ asked_sound s image digest kind k handed l c keeps =
     safe_ready x s.settings manifest_types (prepared s image Pull Get url manifest_types) _ l c (prepared_safe x s.settings Get url manifest_types l c keeps) (λ l c request keeps sent. whole_sound x s.settings manifest_types 10 request s.settings.max_body_bytes l c sent keeps))
 
 -- a manifest or an index, without store
-pub document_asked_sound : (s : Context) (image : Reference) (k : Memory) (handed : Option RegistryAuth) (l : Memory) (c : List Exchange) → Keeps (pulling k s image handed) l c → Sound (pulling k s image handed) s.settings manifest_types l c (manifest_asked s image)
+pub document_asked_sound : (s : Context) (image : Reference) (k : AuthState) (handed : Option RegistryAuth) (l : AuthState) (c : List Exchange) → Keeps (pulling k s image handed) l c → Sound (pulling k s image handed) s.settings manifest_types l c (manifest_asked s image)
 unfolding manifest_asked manifest_document
 document_asked_sound s image k handed l c keeps =
     let x = pulling k s image handed in
@@ -60,7 +60,7 @@ document_asked_sound s image k handed l c keeps =
     plain_step x s.settings manifest_types (document_read found.0) _ l c (read_document_plain found.0) (λ document is. plain_last x s.settings manifest_types (Ok (document, found.1)) l c tt keeps))
 
 -- the call for the tag
-pub tagged_sound : (s : Context) (image : Reference) (digest : List ℕ) (kind : Option (List ℕ)) (k : Memory) (handed : Option RegistryAuth) (l : Memory) (c : List Exchange) → Keeps (pulling k s (fallback_reference image digest) handed) l c → Sound (pulling k s (fallback_reference image digest) handed) s.settings manifest_types l c (referrers_tagged s image digest kind)
+pub tagged_sound : (s : Context) (image : Reference) (digest : List ℕ) (kind : Option (List ℕ)) (k : AuthState) (handed : Option RegistryAuth) (l : AuthState) (c : List Exchange) → Keeps (pulling k s (fallback_reference image digest) handed) l c → Sound (pulling k s (fallback_reference image digest) handed) s.settings manifest_types l c (referrers_tagged s image digest kind)
 unfolding referrers_tagged
 tagged_sound s image digest kind k handed l c keeps =
     let x = pulling k s (fallback_reference image digest) handed in
@@ -70,18 +70,18 @@ tagged_sound s image digest kind k handed l c keeps =
 
 -- ---- both
 
-within_behind : {A : Type 0} (x : Entry) (s : Settings) (Q : Memory → List Exchange → Result A OciDistributionError → Type 0) (p : Row A) (k l : Memory) (m : ℕ) (seen c : List Exchange) → AllConfined x s seen → Keeps x k seen → Safe (Carries x s) (Keeps x) Q k seen p → Behind p k m c l → Within x s l (seen ++ c)
+within_behind : {A : Type 0} (x : Entry) (s : Settings) (Q : AuthState → List Exchange → Result A OciDistributionError → Type 0) (p : Row A) (k l : AuthState) (m : ℕ) (seen c : List Exchange) → AllConfined x s seen → Keeps x k seen → Safe (Carries x s) (Keeps x) Q k seen p → Behind p k m c l → Within x s l (seen ++ c)
 within_behind x s Q p k l m seen c confined keeps h b =
     let after = behind_keeps (Carries x s) (Keeps x) Q p k l m seen c (keeps_more x) keeps h b in
     record { confined = each_more (Confined x s) [] seen c confined (behind_each (Confined x s) (Keeps x) Q p k l m seen c h b); kept = after.added; stored = after.stored }
 
 -- the list's exchanges
-pub asked_within : (k : Memory) (s : Context) (image : Reference) (digest : List ℕ) (kind : Option (List ℕ)) (between : Memory) (m n : ℕ) (c : List Exchange) (r : Result Got OciDistributionError) → Runs (referrers_asked s image digest kind) k m c n between r → Within (pulling k s image None) s.settings between c
+pub asked_within : (k : AuthState) (s : Context) (image : Reference) (digest : List ℕ) (kind : Option (List ℕ)) (between : AuthState) (m n : ℕ) (c : List Exchange) (r : Result Got OciDistributionError) → Runs (referrers_asked s image digest kind) k m c n between r → Within (pulling k s image None) s.settings between c
 asked_within k s image digest kind between m n c r runs = let x = pulling k s image None in
     within_behind x s.settings (Ended x s.settings manifest_types) (referrers_asked s image digest kind) k between m [] c tt (keeps_first x) (asked_sound s image digest kind k None k [] (keeps_first x)) (inr (n, r, runs))
 
 -- the tag is requested after a response of status 404
-after_list : (k : Memory) (s : Context) (image : Reference) (digest : List ℕ) (kind : Option (List ℕ)) (handed : Option RegistryAuth) (j l : Memory) (m : ℕ) (seen c : List Exchange) → digest_of image ≡ Some digest → AllConfined (pulling k s image handed) s.settings seen → Keeps (pulling k s image handed) j seen
+after_list : (k : AuthState) (s : Context) (image : Reference) (digest : List ℕ) (kind : Option (List ℕ)) (handed : Option RegistryAuth) (j l : AuthState) (m : ℕ) (seen c : List Exchange) → digest_of image ≡ Some digest → AllConfined (pulling k s image handed) s.settings seen → Keeps (pulling k s image handed) j seen
     → Parted (referrers_asked s image digest kind) (unless_refused (referrers_by s image digest kind)) j m c l → WithinReferrers (pulling k s image handed) s.settings l (seen ++ c)
 after_list k s image digest kind handed j l m seen c digest_is confined keeps h = by_answer h.answer h.runs h.behind where
   x : Entry
@@ -116,14 +116,14 @@ after_list k s image digest kind handed j l m seen c digest_is confined keeps h 
   by_answer (Ok got) runs behind = by_status got (nat_eq got.answer.status 404) refl runs behind
   by_answer (Err e) runs behind = ended (Err e) (Err e) runs behind
 
-with_digest : (k : Memory) (s : Context) (image : Reference) (digest : List ℕ) (kind : Option (List ℕ)) (handed : Option RegistryAuth) (j l : Memory) (m : ℕ) (seen c : List Exchange) → digest_of image ≡ Some digest → AllConfined (pulling k s image handed) s.settings seen → Keeps (pulling k s image handed) j seen
+with_digest : (k : AuthState) (s : Context) (image : Reference) (digest : List ℕ) (kind : Option (List ℕ)) (handed : Option RegistryAuth) (j l : AuthState) (m : ℕ) (seen c : List Exchange) → digest_of image ≡ Some digest → AllConfined (pulling k s image handed) s.settings seen → Keeps (pulling k s image handed) j seen
     → Behind (referrers_asked s image digest kind) j m c l ⊎ Parted (referrers_asked s image digest kind) (unless_refused (referrers_by s image digest kind)) j m c l → WithinReferrers (pulling k s image handed) s.settings l (seen ++ c)
 with_digest k s image digest kind handed j l m seen c digest_is confined keeps (inl behind) = let x = pulling k s image handed in
     inl (within_behind x s.settings (Ended x s.settings manifest_types) (referrers_asked s image digest kind) j l m seen c confined keeps (asked_sound s image digest kind k handed j seen keeps) behind)
 with_digest k s image digest kind handed j l m seen c digest_is confined keeps (inr parted) = after_list k s image digest kind handed j l m seen c digest_is confined keeps parted
 
 -- after exchanges that are confined to the image
-referrers_within : (k : Memory) (s : Context) (image : Reference) (kind : Option (List ℕ)) (handed : Option RegistryAuth) (j l : Memory) (m : ℕ) (seen c : List Exchange) → AllConfined (pulling k s image handed) s.settings seen → Keeps (pulling k s image handed) j seen
+referrers_within : (k : AuthState) (s : Context) (image : Reference) (kind : Option (List ℕ)) (handed : Option RegistryAuth) (j l : AuthState) (m : ℕ) (seen c : List Exchange) → AllConfined (pulling k s image handed) s.settings seen → Keeps (pulling k s image handed) j seen
     → Behind (pull_referrers s image kind) j m c l → WithinReferrers (pulling k s image handed) s.settings l (seen ++ c)
 unfolding pull_referrers bind
 referrers_within k s image kind handed j l m seen c confined keeps behind = by_digest (digest_of image) refl behind where
@@ -135,12 +135,12 @@ referrers_within k s image kind handed j l m seen c confined keeps behind = by_d
 told_more : {P Q : List Exchange → Type 0} {old new : Link} → ((c : List Exchange) → P c → Q c) → Told P old new → Told Q old new
 told_more more told = record { conversation = told.conversation; told = told.told; holds = more told.conversation told.holds }
 
-pub referrers_confined : (s : Context) (image : Reference) (kind : Option (List ℕ)) {old new : Link} {k l : Memory} {r : Result OciImageIndex OciDistributionError} → Meets is_memory (pull_referrers s image kind) old new k l r → Told (WithinReferrers (pulling k s image None) s.settings l) old new
+pub referrers_confined : (s : Context) (image : Reference) (kind : Option (List ℕ)) {old new : Link} {k l : AuthState} {r : Result OciImageIndex OciDistributionError} → Meets is_memory (pull_referrers s image kind) old new k l r → Told (WithinReferrers (pulling k s image None) s.settings l) old new
 referrers_confined s image kind {old} {new} {k} {l} met = told_more (λ c behind. referrers_within k s image kind None k l old.faults [] c tt (keeps_first (pulling k s image None)) behind) (met_behind met)
 
 -- ---- after the call for a token
 
-given_within : (k : Memory) (s : Context) (image : Reference) (a : RegistryAuth) (kind : Option (List ℕ)) (l : Memory) (m : ℕ) (c : List Exchange) → Behind (token_given s image a Pull) k m c l ⊎ Parted (token_given s image a Pull) (unless_refused (λ t. pull_referrers s image kind)) k m c l → WithinReferrers (pulling k s image (Some a)) s.settings l c
+given_within : (k : AuthState) (s : Context) (image : Reference) (a : RegistryAuth) (kind : Option (List ℕ)) (l : AuthState) (m : ℕ) (c : List Exchange) → Behind (token_given s image a Pull) k m c l ⊎ Parted (token_given s image a Pull) (unless_refused (λ t. pull_referrers s image kind)) k m c l → WithinReferrers (pulling k s image (Some a)) s.settings l c
 given_within k s image a kind l m c (inl behind) = let x = pulling k s image (Some a) in
     inl (within_behind x s.settings (Any x) (token_given s image a Pull) k l m [] c tt (keeps_first x) (given_safe k s image a Pull k [] (keeps_first x)) behind)
 given_within k s image a kind l m c (inr h) = by_answer h.answer h.runs h.behind where
@@ -159,5 +159,5 @@ given_within k s image a kind l m c (inr h) = by_answer h.answer h.runs h.behind
       let over = behind_done (Err e) h.between h.count h.second l behind in
       inl (subst (λ z. Within x s.settings z c) over.1 (subst (λ z. Within x s.settings h.between z) (sym (h.joined ∙ ap (λ z. h.first ++ z) over.0 ∙ append-nil h.first)) (front (Err e) runs)))
 
-pub given_referrers_confined : (s : Context) (image : Reference) (a : RegistryAuth) (kind : Option (List ℕ)) {old new : Link} {k l : Memory} {r : Result OciImageIndex OciDistributionError} → Meets is_memory (token_given s image a Pull >>= λ t. pull_referrers s image kind) old new k l r → Told (WithinReferrers (pulling k s image (Some a)) s.settings l) old new
+pub given_referrers_confined : (s : Context) (image : Reference) (a : RegistryAuth) (kind : Option (List ℕ)) {old new : Link} {k l : AuthState} {r : Result OciImageIndex OciDistributionError} → Meets is_memory (token_given s image a Pull >>= λ t. pull_referrers s image kind) old new k l r → Told (WithinReferrers (pulling k s image (Some a)) s.settings l) old new
 given_referrers_confined s image a kind {old} {new} {k} {l} met = told_more (λ c behind. given_within k s image a kind l old.faults c (behind_parts (token_given s image a Pull) (unless_refused (λ t. pull_referrers s image kind)) k old.faults c l behind)) (met_behind met)

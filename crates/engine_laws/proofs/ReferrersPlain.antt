@@ -6,7 +6,7 @@ use Rattle.oci_transport.specs.Urls.{request_url}
 use Rattle.oci_transport.specs.declared.message.Exchange.{Exchange}
 use Rattle.json_values.specs.JsonText.{json_of}
 use Rattle.oci_names.specs.declared.reference.Reference.{Reference}
-use Rattle.oci_auth.specs.declared.memory.Memory.{Memory}
+use Rattle.oci_auth.specs.declared.auth_state.AuthState.{AuthState}
 use Rattle.oci_manifests.specs.declared.document.OciManifest.{OciManifest}
 use Rattle.oci_manifests.specs.declared.document.OciManifest.TheVariants.{Image, ImageIndex}
 use Rattle.oci_manifests.specs.declared.index.OciImageIndex.{OciImageIndex}
@@ -51,7 +51,7 @@ tag_plain digest kind (ImageIndex index) = tt
 tag_plain digest kind (Image manifest) = tt
 
 -- the client state keeps its invariant, also if the tag does not exist
-pub tagged_ended : (x : Entry) (s : Settings) (types : List ℕ) (digest : List ℕ) (kind : Option (List ℕ)) (l : Memory) (c : List Exchange) (r : Result (OciManifest × List ℕ) OciDistributionError) → Keeps x l c → Ended x s types l c r → Ended x s types l c (tagged_index digest kind r)
+pub tagged_ended : (x : Entry) (s : Settings) (types : List ℕ) (digest : List ℕ) (kind : Option (List ℕ)) (l : AuthState) (c : List Exchange) (r : Result (OciManifest × List ℕ) OciDistributionError) → Keeps x l c → Ended x s types l c r → Ended x s types l c (tagged_index digest kind r)
 tagged_ended x s types digest kind l c (Ok found) keeps h = ended_plain x s types l c (tag_index digest kind found.0) keeps (tag_plain digest kind found.0)
 tagged_ended x s types digest kind l c (Err e) keeps h = by_test (is_absent e) where
   by_test : (b : Bool) → Ended x s types {A = OciImageIndex} l c (if b then Ok no_referrers else Err e)

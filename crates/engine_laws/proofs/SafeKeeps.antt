@@ -5,9 +5,9 @@ use Rattle.oci_transport.specs.Link.{Link}
 use Rattle.oci_transport.specs.declared.message.Request.{Request}
 use Rattle.oci_transport.specs.declared.message.Exchange.{Exchange}
 use Rattle.oci_protocol.specs.Proto.{Proto, Done, Ask, Recall, Keep, Consult}
-use Rattle.oci_protocol.specs.Runs.{Runs, Stops, Performs, Breaks, Outcome, Meets, Told}
+use Rattle.oci_protocol.specs.Runs.{Runs, RunPrefix, Performs, PerformsPrefix, Outcome, Meets, Told}
 use Rattle.oci_protocol.specs.Safe.{Safe, EachAfter}
-use Rattle.oci_protocol.proofs.Safety.{Runs-safe, Stops-safe}
+use Rattle.oci_protocol.proofs.Safety.{Runs-safe, RunPrefix-safe}
 
 -- the invariant is preserved
 abbrev pub Lasts : {K : Type 0} → (K → List Exchange → Type 0) → Type 0
@@ -26,17 +26,17 @@ Runs-keeps P I Q (Recall next) k l m n seen c a lasts i h r = Runs-keeps P I Q (
 Runs-keeps P I Q (Keep kept rest) k l m n seen c a lasts i h r = Runs-keeps P I Q rest kept l m n seen c a lasts h.0 h.1 r
 Runs-keeps P I Q (Consult next) k l m n seen c a lasts i h r = Runs-keeps P I Q (next r.0) k l m n seen c a lasts i (h r.0) r.1
 
-pub Stops-keeps : {K A : Type 0} (P : K → List Exchange → Request → Type 0) (I : K → List Exchange → Type 0) (Q : K → List Exchange → A → Type 0) (p : Proto K A) (k l : K) (m : ℕ) (seen c : List Exchange) → Lasts I → I k seen → Safe P I Q k seen p → Stops p k m c l → I l (seen ++ c)
-unfolding Safe Stops
-Stops-keeps P I Q (Done x) k l m seen [] lasts i h s = ends_here I k l seen s i
-Stops-keeps P I Q (Done x) k l m seen (e ∷ c) lasts i h s = absurd s
-Stops-keeps P I Q (Ask request reading next) k l m seen [] lasts i h s = ends_here I k l seen s i
-Stops-keeps P I Q (Ask request reading next) k l m seen (e ∷ c) lasts i h (inl s) = lasts l seen (e ∷ c) (subst (λ k. I k seen) s.3 i)
-Stops-keeps P I Q (Ask request reading next) k l m seen (e ∷ c) lasts i h (inr s) = subst (I l) (append_assoc seen (e ∷ []) c) (Stops-keeps P I Q (next s.1) k l s.0 (seen ++ e ∷ []) c lasts (lasts k seen (e ∷ []) i) (h.1 e m s.0 s.1 s.2) s.3)
-Stops-keeps P I Q (Recall next) k l m seen c lasts i h s = Stops-keeps P I Q (next k) k l m seen c lasts i h s
-Stops-keeps P I Q (Consult next) k l m seen c lasts i h s = Stops-keeps P I Q (next s.0) k l m seen c lasts i (h s.0) s.1
-Stops-keeps P I Q (Keep kept rest) k l m seen c lasts i h (inl s) = lasts l seen c (subst (λ k. I k seen) s.1 i)
-Stops-keeps P I Q (Keep kept rest) k l m seen c lasts i h (inr s) = Stops-keeps P I Q rest kept l m seen c lasts h.0 h.1 s
+pub RunPrefix-keeps : {K A : Type 0} (P : K → List Exchange → Request → Type 0) (I : K → List Exchange → Type 0) (Q : K → List Exchange → A → Type 0) (p : Proto K A) (k l : K) (m : ℕ) (seen c : List Exchange) → Lasts I → I k seen → Safe P I Q k seen p → RunPrefix p k m c l → I l (seen ++ c)
+unfolding Safe RunPrefix
+RunPrefix-keeps P I Q (Done x) k l m seen [] lasts i h s = ends_here I k l seen s i
+RunPrefix-keeps P I Q (Done x) k l m seen (e ∷ c) lasts i h s = absurd s
+RunPrefix-keeps P I Q (Ask request reading next) k l m seen [] lasts i h s = ends_here I k l seen s i
+RunPrefix-keeps P I Q (Ask request reading next) k l m seen (e ∷ c) lasts i h (inl s) = lasts l seen (e ∷ c) (subst (λ k. I k seen) s.3 i)
+RunPrefix-keeps P I Q (Ask request reading next) k l m seen (e ∷ c) lasts i h (inr s) = subst (I l) (append_assoc seen (e ∷ []) c) (RunPrefix-keeps P I Q (next s.1) k l s.0 (seen ++ e ∷ []) c lasts (lasts k seen (e ∷ []) i) (h.1 e m s.0 s.1 s.2) s.3)
+RunPrefix-keeps P I Q (Recall next) k l m seen c lasts i h s = RunPrefix-keeps P I Q (next k) k l m seen c lasts i h s
+RunPrefix-keeps P I Q (Consult next) k l m seen c lasts i h s = RunPrefix-keeps P I Q (next s.0) k l m seen c lasts i (h s.0) s.1
+RunPrefix-keeps P I Q (Keep kept rest) k l m seen c lasts i h (inl s) = lasts l seen c (subst (λ k. I k seen) s.1 i)
+RunPrefix-keeps P I Q (Keep kept rest) k l m seen c lasts i h (inr s) = RunPrefix-keeps P I Q rest kept l m seen c lasts h.0 h.1 s
 
 -- and it holds for each result
 pub Safe-keeps : {K A : Type 0} (P : K → List Exchange → Request → Type 0) (I : K → List Exchange → Type 0) (Q : K → List Exchange → A → Type 0) (p : Proto K A) (k : K) (seen : List Exchange) → Lasts I → I k seen → Safe P I Q k seen p → Safe P I (λ l c a. I l c × Q l c a) k seen p
@@ -54,10 +54,10 @@ Meets-within {K} {A} {E} {of_memory} P I Q R {p} {old} {new} {k} {l} {r} lasts f
   performed : (r : Result A E) → Performs p old new k l r → Told R old new
   performed r done = record { conversation = done.conversation; told = done.told; holds = gives done.conversation (Runs-safe P I Q p k l old.faults new.faults [] done.conversation r h done.runs).each (Runs-keeps (λ k. P) I Q p k l old.faults new.faults [] done.conversation r lasts first h done.runs) }
 
-  broken : Breaks p old new k l → Told R old new
-  broken cut = record { conversation = cut.conversation; told = cut.told; holds = gives cut.conversation (Stops-safe P I Q p k l old.faults [] cut.conversation h cut.stops) (Stops-keeps (λ k. P) I Q p k l old.faults [] cut.conversation lasts first h cut.stops) }
+  broken : PerformsPrefix p old new k l → Told R old new
+  broken cut = record { conversation = cut.conversation; told = cut.told; holds = gives cut.conversation (RunPrefix-safe P I Q p k l old.faults [] cut.conversation h cut.stops) (RunPrefix-keeps (λ k. P) I Q p k l old.faults [] cut.conversation lasts first h cut.stops) }
 
-  by_memory : (b : Bool) (e : E) → MatchBool b (Breaks p old new k l) (Performs p old new k l (Err e)) → Told R old new
+  by_memory : (b : Bool) (e : E) → MatchBool b (PerformsPrefix p old new k l) (Performs p old new k l (Err e)) → Told R old new
   by_memory true e run = broken run
   by_memory false e run = performed (Err e) run
 

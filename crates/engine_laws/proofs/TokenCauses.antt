@@ -3,7 +3,7 @@ use Rattle.std.proofs.Common.{◌≡◌, ◌≢◌, ◌<◌, ◌⊎◌, inl, inr
 use Rattle.std.specs.Prelude.{nat_eq, if◌then◌else◌}
 use Rattle.std.specs.FinMap as map
 use Rattle.url.specs.Parts.{Parts}
-use Rattle.json_values.specs.Counts.{Rose}
+use Rattle.json_values.specs.Counts.{Increased}
 use Rattle.oci_transport.specs.Headers.{Fields, added, held}
 use Rattle.oci_transport.specs.Link.{Link, answer_of}
 use Rattle.oci_transport.specs.Urls.{request_url}
@@ -21,14 +21,14 @@ use Rattle.oci_auth.specs.Kept.{Key}
 use Rattle.oci_auth.specs.Token.{token_of}
 use Rattle.oci_auth.specs.declared.auth.RegistryAuth.{RegistryAuth}
 use Rattle.oci_auth.specs.declared.auth.RegistryAuth.TheVariants as credentials
-use Rattle.oci_auth.specs.declared.memory.Memory.{Memory}
+use Rattle.oci_auth.specs.declared.auth_state.AuthState.{AuthState}
 use Rattle.oci_auth.specs.declared.token.RegistryToken.{RegistryToken}
 use Rattle.oci_auth.specs.declared.token_type.RegistryOperation.{RegistryOperation}
 use Rattle.oci_auth.specs.declared.token_type.RegistryTokenType.{RegistryTokenType}
 use Rattle.oci_protocol.specs.Proto.{Reading, limit_of, Reply, Headed, Answered, Failed, TooLong, SinkFailed, Piped, read_none, read_within, Done, ◌>>=◌}
 use Rattle.oci_protocol.specs.Runs.{Runs, Meets, Told, head_part}
-use Rattle.oci_protocol.specs.Shows.{Shows, ByAnswer, Heard}
-use Rattle.oci_protocol.proofs.RunFacts.{done_run, Shows-done, Shows-more, Shows-each, Shows-step, Shows-last, Shows-recall, Shows-keep, Shows-follow}
+use Rattle.oci_protocol.specs.EveryRun.{EveryRun, ByResult, Heard}
+use Rattle.oci_protocol.proofs.RunFacts.{done_run, EveryRun-done, EveryRun-more, EveryRun-each, EveryRun-step, EveryRun-last, EveryRun-recall, EveryRun-keep, EveryRun-follow}
 use Rattle.engine_terms.specs.Contexts.{Context}
 use Rattle.engine_terms.specs.declared.settings.Settings.{Settings}
 use Rattle.engine_answers.specs.declared.answers.Got.{Got}
@@ -120,7 +120,7 @@ abbrev Refused : Settings → Reference → RegistryAuth → ℕ → List Exchan
 Refused s image a m c n e = TokenCause s image a c n e
 
 abbrev Shown : Settings → Reference → RegistryAuth → {A : Type 0} → Row A → Type 0
-Shown s image a p = Shows (ByAnswer Any (Refused s image a)) p
+Shown s image a p = EveryRun (ByResult Any (Refused s image a)) p
 
 heard_last : (P : Exchange → Type 0) {request : Request} {reading : AnswerHead → Reading} {m : ℕ} {c : List Exchange} {after : ℕ} {last : Request} {reply : Reply} (h : Heard 0 request reading m c after last reply) → P h.exchange → LastIs P c
 heard_last P h holds = record { before = h.redirects; last = h.exchange; split = h.split; holds = holds }
@@ -145,33 +145,33 @@ within_piped limit n head is = cc is
 abbrev LastHead : ℕ → List Exchange → ℕ → AnswerHead → Type 0
 LastHead m c n head = LastIs (WithAnswer (λ answer. head_part answer ≡ head)) c
 
-head_run : (s : Settings) (image : Reference) (a : RegistryAuth) (request : Request) (k l : Memory) (m after o : ℕ) (c d : List Exchange) (last : Request) (reply : Reply) (r : Result AnswerHead OciDistributionError) → Heard 0 request read_none m c after last reply → Runs (head_reply last reply) k after d o l r → ByAnswer LastHead (Refused s image a) m (c ++ d) o r
-head_run s image a request k l m after o c d last (Headed head) r h run = done_run (λ start d o r. ByAnswer LastHead (Refused s image a) m (c ++ d) o r) (Ok head) k l after o d r (rw append-nil (heard_last (WithAnswer (λ answer. head_part answer ≡ head)) h (answer_of head h.replies.reply_is.0, h.replies.reply_is.1, refl))) run
+head_run : (s : Settings) (image : Reference) (a : RegistryAuth) (request : Request) (k l : AuthState) (m after o : ℕ) (c d : List Exchange) (last : Request) (reply : Reply) (r : Result AnswerHead OciDistributionError) → Heard 0 request read_none m c after last reply → Runs (head_reply last reply) k after d o l r → ByResult LastHead (Refused s image a) m (c ++ d) o r
+head_run s image a request k l m after o c d last (Headed head) r h run = done_run (λ start d o r. ByResult LastHead (Refused s image a) m (c ++ d) o r) (Ok head) k l after o d r (rw append-nil (heard_last (WithAnswer (λ answer. head_part answer ≡ head)) h (answer_of head h.replies.reply_is.0, h.replies.reply_is.1, refl))) run
 head_run s image a request k l m after o c d last (Answered answer) r h run = let b = h.replies.reply_is in absurd (no_limit (head_part answer) b.0 b.2)
-head_run s image a request k l m after o c d last Failed r h run = done_run (λ start d o r. ByAnswer LastHead (Refused s image a) m (c ++ d) o r) (Err refusal.TransportFault) k l after o d r (rw append-nil (heard_last (λ e. Rose e.faults after) h h.replies.reply_is)) run
+head_run s image a request k l m after o c d last Failed r h run = done_run (λ start d o r. ByResult LastHead (Refused s image a) m (c ++ d) o r) (Err refusal.TransportFault) k l after o d r (rw append-nil (heard_last (λ e. Increased e.faults after) h h.replies.reply_is)) run
 head_run s image a request k l m after o c d last TooLong r h run = let b = h.replies.reply_is in absurd (no_limit (head_part b.0) b.1 b.3)
 head_run s image a request k l m after o c d last SinkFailed r h run = let b = h.replies.reply_is in absurd (not_piped (head_part b.0) b.1 b.3)
 
-head_shown : (s : Settings) (image : Reference) (a : RegistryAuth) (request : Request) → Shows (ByAnswer LastHead (Refused s image a)) (head_after 0 request)
+head_shown : (s : Settings) (image : Reference) (a : RegistryAuth) (request : Request) → EveryRun (ByResult LastHead (Refused s image a)) (head_after 0 request)
 unfolding head_after
-head_shown s image a request = Shows-follow (ByAnswer LastHead (Refused s image a)) 0 request read_none head_reply (head_run s image a request)
+head_shown s image a request = EveryRun-follow (ByResult LastHead (Refused s image a)) 0 request read_none head_reply (head_run s image a request)
 
 -- the response is that of the last exchange
 abbrev LastGot : ℕ → List Exchange → ℕ → Got → Type 0
 LastGot m c n got = LastIs (WithAnswer (λ answer. answer ≡ got.answer)) c
 
-whole_run : (s : Settings) (image : Reference) (a : RegistryAuth) (request : Request) (k l : Memory) (m after o : ℕ) (c d : List Exchange) (last : Request) (reply : Reply) (r : Result Got OciDistributionError) → Heard 0 request (read_within s.max_body_bytes) m c after last reply → Runs (whole_reply last reply) k after d o l r → ByAnswer LastGot (Refused s image a) m (c ++ d) o r
+whole_run : (s : Settings) (image : Reference) (a : RegistryAuth) (request : Request) (k l : AuthState) (m after o : ℕ) (c d : List Exchange) (last : Request) (reply : Reply) (r : Result Got OciDistributionError) → Heard 0 request (read_within s.max_body_bytes) m c after last reply → Runs (whole_reply last reply) k after d o l r → ByResult LastGot (Refused s image a) m (c ++ d) o r
 whole_run s image a request k l m after o c d last (Headed head) r h run = absurd (unread_never s.max_body_bytes head h.replies.reply_is.2)
-whole_run s image a request k l m after o c d last (Answered answer) r h run = done_run (λ start d o r. ByAnswer LastGot (Refused s image a) m (c ++ d) o r) (Ok (record { url = last.url; answer = answer })) k l after o d r (rw append-nil (heard_last (WithAnswer (λ x. x ≡ answer)) h (answer, h.replies.reply_is.1, refl))) run
-whole_run s image a request k l m after o c d last Failed r h run = done_run (λ start d o r. ByAnswer LastGot (Refused s image a) m (c ++ d) o r) (Err refusal.TransportFault) k l after o d r (rw append-nil (heard_last (λ e. Rose e.faults after) h h.replies.reply_is)) run
+whole_run s image a request k l m after o c d last (Answered answer) r h run = done_run (λ start d o r. ByResult LastGot (Refused s image a) m (c ++ d) o r) (Ok (record { url = last.url; answer = answer })) k l after o d r (rw append-nil (heard_last (WithAnswer (λ x. x ≡ answer)) h (answer, h.replies.reply_is.1, refl))) run
+whole_run s image a request k l m after o c d last Failed r h run = done_run (λ start d o r. ByResult LastGot (Refused s image a) m (c ++ d) o r) (Err refusal.TransportFault) k l after o d r (rw append-nil (heard_last (λ e. Increased e.faults after) h h.replies.reply_is)) run
 whole_run s image a request k l m after o c d last TooLong r h run =
     let b = h.replies.reply_is in
-    done_run (λ start d o r. ByAnswer LastGot (Refused s image a) m (c ++ d) o r) (Err refusal.BodyTooLong) k l after o d r (rw append-nil (heard_last (WithAnswer (λ answer. s.max_body_bytes < length answer.body)) h (b.0, b.2, rw (within_limit s.max_body_bytes b.1 (head_part b.0) b.3) b.4))) run
+    done_run (λ start d o r. ByResult LastGot (Refused s image a) m (c ++ d) o r) (Err refusal.BodyTooLong) k l after o d r (rw append-nil (heard_last (WithAnswer (λ answer. s.max_body_bytes < length answer.body)) h (b.0, b.2, rw (within_limit s.max_body_bytes b.1 (head_part b.0) b.3) b.4))) run
 whole_run s image a request k l m after o c d last SinkFailed r h run = let b = h.replies.reply_is in absurd (within_piped s.max_body_bytes b.1 (head_part b.0) b.3)
 
-whole_shown : (s : Settings) (image : Reference) (a : RegistryAuth) (request : Request) → Shows (ByAnswer LastGot (Refused s image a)) (whole 0 request s.max_body_bytes)
+whole_shown : (s : Settings) (image : Reference) (a : RegistryAuth) (request : Request) → EveryRun (ByResult LastGot (Refused s image a)) (whole 0 request s.max_body_bytes)
 unfolding whole
-whole_shown s image a request = Shows-follow (ByAnswer LastGot (Refused s image a)) 0 request (read_within s.max_body_bytes) whole_reply (whole_run s image a request)
+whole_shown s image a request = EveryRun-follow (ByResult LastGot (Refused s image a)) 0 request (read_within s.max_body_bytes) whole_reply (whole_run s image a request)
 
 -- ---- the realm's response
 
@@ -201,40 +201,40 @@ read_cause s image a now c got e last is = by_status s image a now c got.answer 
 
 -- ---- rows
 
-any_more : {A : Type 0} (s : Settings) (image : Reference) (a : RegistryAuth) (c : List Exchange) (m start n : ℕ) (d : List Exchange) (r : Result A OciDistributionError) → ByAnswer Any (Refused s image a) start d n r → ByAnswer Any (Refused s image a) m (c ++ d) n r
+any_more : {A : Type 0} (s : Settings) (image : Reference) (a : RegistryAuth) (c : List Exchange) (m start n : ℕ) (d : List Exchange) (r : Result A OciDistributionError) → ByResult Any (Refused s image a) start d n r → ByResult Any (Refused s image a) m (c ++ d) n r
 any_more s image a c m start n d (Ok x) h = tt
 any_more s image a c m start n d (Err e) h = cause_later s image a n c d e h
 
 -- after other exchanges
-later : {A : Type 0} (s : Settings) (image : Reference) (a : RegistryAuth) (c : List Exchange) (m : ℕ) (p : Row A) → Shown s image a p → Shows (λ start d o r. ByAnswer Any (Refused s image a) m (c ++ d) o r) p
-later s image a c m p h = Shows-more (ByAnswer Any (Refused s image a)) (λ start d o r. ByAnswer Any (Refused s image a) m (c ++ d) o r) p h (λ start o d r h. any_more s image a c m start o d r h)
+later : {A : Type 0} (s : Settings) (image : Reference) (a : RegistryAuth) (c : List Exchange) (m : ℕ) (p : Row A) → Shown s image a p → EveryRun (λ start d o r. ByResult Any (Refused s image a) m (c ++ d) o r) p
+later s image a c m p h = EveryRun-more (ByResult Any (Refused s image a)) (λ start d o r. ByResult Any (Refused s image a) m (c ++ d) o r) p h (λ start o d r h. any_more s image a c m start o d r h)
 
 next_shown : {A B : Type 0} (s : Settings) (image : Reference) (a : RegistryAuth) (p : Row A) (f : A → Row B) → Shown s image a p → ((x : A) → Shown s image a (f x)) → Shown s image a (p >>= f)
-next_shown s image a p f h each = Shows-each Any Any (Refused s image a) p f h (λ m n c x g. later s image a c m (f x) (each x))
+next_shown s image a p f h each = EveryRun-each Any Any (Refused s image a) p f h (λ m n c x g. later s image a c m (f x) (each x))
 
 done_shown : {A : Type 0} (s : Settings) (image : Reference) (a : RegistryAuth) (x : A) → Shown s image a (Done (Ok x))
-done_shown s image a x = Shows-done (ByAnswer Any (Refused s image a)) (Ok x) (λ m. tt)
+done_shown s image a x = EveryRun-done (ByResult Any (Refused s image a)) (Ok x) (λ m. tt)
 
 -- a token is requested from the realm, after the response that names it
-realm_later : (s : Settings) (image : Reference) (a : RegistryAuth) (op : RegistryOperation) (challenge : BearerChallenge) (c : List Exchange) (m : ℕ) → LastRealm c challenge.realm → Shows (λ start d o r. ByAnswer Any (Refused s image a) m (c ++ d) o r) (realm_asked s image a op challenge)
+realm_later : (s : Settings) (image : Reference) (a : RegistryAuth) (op : RegistryOperation) (challenge : BearerChallenge) (c : List Exchange) (m : ℕ) → LastRealm c challenge.realm → EveryRun (λ start d o r. ByResult Any (Refused s image a) m (c ++ d) o r) (realm_asked s image a op challenge)
 unfolding realm_asked realm_request
-realm_later s image a op challenge c m named = Shows-step (λ start d o r. ByAnswer Any (Refused s image a) m (c ++ d) o r) (url_read challenge.realm) _
-    (λ url is. later s image a c m _ (Shows-step (ByAnswer Any (Refused s image a)) (request_of s Get (realm_url image op challenge.service url) None (own_token a)) _
-    (λ request made. Shows-each LastGot Any (Refused s image a) (whole 0 request s.max_body_bytes) (λ got. Done (token_read got.answer)) (whole_shown s image a request)
-    (λ m n c got last. Shows-last (λ start d o x. Unit {0}) (λ start d o e. TokenCause s image a (c ++ d) o e) (token_read got.answer) (λ x is o. tt) (λ e is o. rw append-nil (read_cause s image a o c got e last is))))
+realm_later s image a op challenge c m named = EveryRun-step (λ start d o r. ByResult Any (Refused s image a) m (c ++ d) o r) (url_read challenge.realm) _
+    (λ url is. later s image a c m _ (EveryRun-step (ByResult Any (Refused s image a)) (request_of s Get (realm_url image op challenge.service url) None (own_token a)) _
+    (λ request made. EveryRun-each LastGot Any (Refused s image a) (whole 0 request s.max_body_bytes) (λ got. Done (token_read got.answer)) (whole_shown s image a request)
+    (λ m n c got last. EveryRun-last (λ start d o x. Unit {0}) (λ start d o e. TokenCause s image a (c ++ d) o e) (token_read got.answer) (λ x is o. tt) (λ e is o. rw append-nil (read_cause s image a o c got e last is))))
     (λ e is m. request_cause s image a m [] Get (realm_url image op challenge.service url) (own_token a) e (inr refl) is)))
     (λ e is o. rw append-nil (url_cause s image a o c challenge.realm (request_url challenge.realm) e (inr named) refl is))
 
-fetched_later : (s : Settings) (image : Reference) (a : RegistryAuth) (op : RegistryOperation) (head : AnswerHead) (w : Wanted) (c : List Exchange) (m n : ℕ) → wanted head ≡ w → LastHead m c n head → Shows (λ start d o r. ByAnswer Any (Refused s image a) m (c ++ d) o r) (fetched s image a op w)
+fetched_later : (s : Settings) (image : Reference) (a : RegistryAuth) (op : RegistryOperation) (head : AnswerHead) (w : Wanted) (c : List Exchange) (m n : ℕ) → wanted head ≡ w → LastHead m c n head → EveryRun (λ start d o r. ByResult Any (Refused s image a) m (c ++ d) o r) (fetched s image a op w)
 fetched_later s image a op head wants.Nothing c m n is last = later s image a c m _ (done_shown s image a None)
 fetched_later s image a op head wants.Credentials c m n is last = later s image a c m _ (done_shown s image a (own_token a))
 fetched_later s image a op head (wants.Token challenge) c m n is last = realm_later s image a op challenge c m (last_more (λ answer. head_part answer ≡ head) (λ answer. (named : BearerChallenge) × (wanted (head_part answer) ≡ wants.Token named) × (challenge.realm ≡ named.realm)) c (λ answer same. (challenge, ap wanted same ∙ is, refl)) last)
 
 registry_shown : (s : Settings) (image : Reference) (a : RegistryAuth) (op : RegistryOperation) → Shown s image a (registry_asked s image a op)
 unfolding registry_asked
-registry_shown s image a op = Shows-step (ByAnswer Any (Refused s image a)) (url_read (base_text s image)) _
-    (λ url is. Shows-step (ByAnswer Any (Refused s image a)) (request_of s Get url None None) _
-    (λ request made. Shows-each LastHead Any (Refused s image a) (head_after 0 request) (λ head. fetched s image a op (wanted head)) (head_shown s image a request) (λ m n c head last. fetched_later s image a op head (wanted head) c m n refl last))
+registry_shown s image a op = EveryRun-step (ByResult Any (Refused s image a)) (url_read (base_text s image)) _
+    (λ url is. EveryRun-step (ByResult Any (Refused s image a)) (request_of s Get url None None) _
+    (λ request made. EveryRun-each LastHead Any (Refused s image a) (head_after 0 request) (λ head. fetched s image a op (wanted head)) (head_shown s image a request) (λ m n c head last. fetched_later s image a op head (wanted head) c m n refl last))
     (λ e is m. request_cause s image a m [] Get url None e (inl refl) is))
     (λ e is m. url_cause s image a m [] (base_text s image) (request_url (base_text s image)) e (inl refl) refl is)
 
@@ -244,10 +244,10 @@ step_shown s image (credentials.Basic user password) op = registry_shown s image
 step_shown s image credentials.Anonymous op = registry_shown s image credentials.Anonymous op
 
 recalled_shown : (s : Settings) (image : Reference) (a : RegistryAuth) → Shown s image a recalled
-recalled_shown s image a = Shows-recall (ByAnswer Any (Refused s image a)) _ (λ k. done_shown s image a k)
+recalled_shown s image a = EveryRun-recall (ByResult Any (Refused s image a)) _ (λ k. done_shown s image a k)
 
-keep_shown : (s : Settings) (image : Reference) (a : RegistryAuth) (k : Memory) → Shown s image a (keep k)
-keep_shown s image a k = Shows-keep (ByAnswer Any (Refused s image a)) k (Done (Ok tt)) (done_shown s image a tt)
+keep_shown : (s : Settings) (image : Reference) (a : RegistryAuth) (k : AuthState) → Shown s image a (keep k)
+keep_shown s image a k = EveryRun-keep (ByResult Any (Refused s image a)) k (Done (Ok tt)) (done_shown s image a tt)
 
 text_shown : (s : Settings) (image : Reference) (a : RegistryAuth) (moment : ℕ) (key : Key) (token : Option RegistryTokenType) → Shown s image a (kept_text moment key token)
 text_shown s image a moment key None = done_shown s image a None
@@ -267,8 +267,8 @@ token_free : (s : Settings) (image : Reference) (a : RegistryAuth) (now : ℕ) (
 token_free s image a now c refusal.WantOfMemory is = tt
 token_free s image a now c _ is = absurd (cc is)
 
-pub token_reason : (s : Context) (image : Reference) (a : RegistryAuth) (op : RegistryOperation) {old new : Link} {k l : Memory} {r : Result (Option (List ℕ)) OciDistributionError} → Meets is_memory (token_given s image a op) old new k l r → IfErr r (λ e. Told (λ c. TokenCause s.settings image a c new.faults e) old new)
+pub token_reason : (s : Context) (image : Reference) (a : RegistryAuth) (op : RegistryOperation) {old new : Link} {k l : AuthState} {r : Result (Option (List ℕ)) OciDistributionError} → Meets is_memory (token_given s image a op) old new k l r → IfErr r (λ e. Told (λ c. TokenCause s.settings image a c new.faults e) old new)
 token_reason s image a op met = refusal_told Any (λ m c n e. TokenCause s.settings image a c n e) (token_given s image a op) (λ m n c e is. token_free s.settings image a n c e is) (given_shown s image a op) met
 
-pub token_fault : (s : Context) (image : Reference) (a : RegistryAuth) (op : RegistryOperation) {old new : Link} {k l : Memory} {r : Result (Option (List ℕ)) OciDistributionError} → Meets is_memory (token_given s image a op) old new k l r → r ≡ Err refusal.TransportFault → Rose old.faults new.faults
+pub token_fault : (s : Context) (image : Reference) (a : RegistryAuth) (op : RegistryOperation) {old new : Link} {k l : AuthState} {r : Result (Option (List ℕ)) OciDistributionError} → Meets is_memory (token_given s image a op) old new k l r → r ≡ Err refusal.TransportFault → Increased old.faults new.faults
 token_fault s image a op met is = fault_last Any (λ m c n e. TokenCause s.settings image a c n e) (token_given s image a op) refusal.TransportFault refl (λ m n c h. h) (given_shown s image a op) (rw is at met)

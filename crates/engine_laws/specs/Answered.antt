@@ -1,7 +1,7 @@
 -- What a conversation shows about the results of a client.
 use Rattle.std.specs.Prelude.{◌≡◌, ◌⊎◌, ℕ, List, [], ◌∷◌, ◌++◌, Option, Some, None, Ok, unwrap_or}
 use Rattle.url.specs.Parts.{Parts, serialize}
-use Rattle.json_values.specs.Tray.{Tray, Adds}
+use Rattle.json_values.specs.SinkState.{SinkState, Adds}
 use Rattle.oci_transport.specs.Link.{Link}
 use Rattle.oci_transport.specs.Urls.{request_url}
 use Rattle.oci_transport.specs.declared.message.Request.{Request}
@@ -141,7 +141,7 @@ pub record Document (image : Reference) (c : List Exchange) (bytes d : List ℕ)
   pub named : (own : List ℕ) → digest_of image ≡ Some own → Names own bytes
 
 -- the sink holds a blob that the digest names: the whole body of the last response
-pub record TookBlob (digest : List ℕ) (old new : Link) (before after : Tray) : Type 0 where
+pub record TookBlob (digest : List ℕ) (old new : Link) (before after : SinkState) : Type 0 where
   pub bytes : List ℕ
   pub took : Adds bytes before after
   pub names : Names digest bytes

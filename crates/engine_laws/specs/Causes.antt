@@ -3,7 +3,7 @@ use Rattle.std.specs.Prelude.{◌≡◌, ◌≢◌, ◌<◌, ◌⊎◌, ℕ, tru
 use Rattle.std.specs.Prelude.{Err, length}
 use Rattle.std.specs.List.{Contains}
 use Rattle.std.specs.Str.{is_utf8}
-use Rattle.json_values.specs.Counts.{Rose}
+use Rattle.json_values.specs.Counts.{Increased}
 use Rattle.url.specs.Parts.{Parts}
 use Rattle.oci_transport.specs.Headers.{digest_header, first_of, is_header_value}
 use Rattle.oci_transport.specs.Urls.{request_url}
@@ -87,7 +87,7 @@ pub record LastAnswer (Own : Act → Type 0) (c : List Exchange) (address : List
 pub record LastFailed (Own : Act → Type 0) (c : List Exchange) (now : ℕ) : Type 0 where
   pub last : Exchange
   pub asked : LastAsked Own c last
-  pub rose : Rose last.faults now
+  pub rose : Increased last.faults now
 
 -- the body of its response has more bytes than `limit`
 pub record LastTooLong (Own : Act → Type 0) (c : List Exchange) (limit : ℕ) : Type 0 where

@@ -15,7 +15,7 @@ use Rattle.oci_auth.specs.Cache.{key_of, token_at}
 use Rattle.oci_auth.specs.Auth.{authorization_of}
 use Rattle.oci_auth.specs.Kept.{Key}
 use Rattle.oci_auth.specs.declared.auth.RegistryAuth.{RegistryAuth}
-use Rattle.oci_auth.specs.declared.memory.Memory.{Memory}
+use Rattle.oci_auth.specs.declared.auth_state.AuthState.{AuthState}
 use Rattle.oci_auth.specs.declared.token_type.RegistryOperation.{RegistryOperation}
 use Rattle.oci_auth.specs.declared.token_type.RegistryTokenType.{RegistryTokenType}
 use Rattle.oci_protocol.specs.Runs.{head_part}
@@ -83,7 +83,7 @@ KeptOrAdded x c key moment token = (token_at x.kept.tokens key moment ≡ Some t
     ⊎ ((key ≡ key_of x.image x.operation) × IsHeld x c token)
 
 -- the same for each token that is returned now, under any key and at any moment
-abbrev pub KeptWell : Entry → Memory → List Exchange → Type 0
+abbrev pub KeptWell : Entry → AuthState → List Exchange → Type 0
 KeptWell x l c = (key : Key) (moment : ℕ) (token : RegistryTokenType)
     → token_at l.tokens key moment ≡ Some token → KeptOrAdded x c key moment token
 
@@ -93,12 +93,12 @@ StoredOrHanded x registry a = (map.get x.kept.credentials registry ≡ Some a)
     ⊎ ((registry ≡ resolved_registry x.image) × (x.handed ≡ Some a))
 
 -- the same for all stored credentials
-abbrev pub StoredWell : Entry → Memory → Type 0
+abbrev pub StoredWell : Entry → AuthState → Type 0
 StoredWell x l = (registry : List ℕ) (a : RegistryAuth)
     → map.get l.credentials registry ≡ Some a → StoredOrHanded x registry a
 
 -- the requests contain what they may, and what is stored after them was stored before or results from them
-pub record Within (x : Entry) (s : Settings) (l : Memory) (c : List Exchange) : Type 0 where
+pub record Within (x : Entry) (s : Settings) (l : AuthState) (c : List Exchange) : Type 0 where
   pub confined : AllConfined x s c
   pub kept : KeptWell x l c
   pub stored : StoredWell x l

@@ -8,7 +8,7 @@ use Rattle.oci_names.specs.Reference.{resolved_registry}
 use Rattle.oci_auth.specs.Cache.{key_of, token_at}
 use Rattle.oci_auth.specs.Auth.{own_token}
 use Rattle.oci_auth.specs.declared.auth.RegistryAuth.{RegistryAuth}
-use Rattle.oci_auth.specs.declared.memory.Memory.{Memory}
+use Rattle.oci_auth.specs.declared.auth_state.AuthState.{AuthState}
 use Rattle.oci_auth.specs.declared.token_type.RegistryOperation.{RegistryOperation}
 use Rattle.oci_auth.specs.declared.token_type.RegistryOperation.TheVariants.{Pull}
 use Rattle.oci_auth.specs.declared.token_type.RegistryTokenType.{RegistryTokenType}
@@ -18,14 +18,14 @@ use Rattle.engine_requests.specs.Tokens.{token_read}
 -- what a call begins with: the client state, the image, the operation, the moment, and the credentials that are passed
 -- in
 pub record Entry : Type 0 where
-  pub kept : Memory
+  pub kept : AuthState
   pub image : Reference
   pub operation : RegistryOperation
   pub moment : ℕ
   pub handed : Option RegistryAuth
 
 -- a call for this operation
-abbrev pub asking : Memory → Context → Reference → RegistryOperation → Option RegistryAuth → Entry
+abbrev pub asking : AuthState → Context → Reference → RegistryOperation → Option RegistryAuth → Entry
 asking kept s image op handed = record {
   kept = kept;
   image = image;
@@ -35,7 +35,7 @@ asking kept s image op handed = record {
 }
 
 -- a call that pulls
-abbrev pub pulling : Memory → Context → Reference → Option RegistryAuth → Entry
+abbrev pub pulling : AuthState → Context → Reference → Option RegistryAuth → Entry
 pulling kept s image handed = asking kept s image Pull handed
 
 -- credentials that are stored for the registry, or passed in

@@ -6,7 +6,7 @@ use Rattle.oci_transport.specs.declared.message.Answer.{Answer}
 use Rattle.oci_transport.specs.declared.message.Exchange.{Exchange}
 use Rattle.oci_names.specs.declared.reference.Reference.{Reference}
 use Rattle.oci_names.specs.Reference.{digest_of}
-use Rattle.oci_auth.specs.declared.memory.Memory.{Memory}
+use Rattle.oci_auth.specs.declared.auth_state.AuthState.{AuthState}
 use Rattle.oci_manifests.specs.declared.document.OciManifest.TheVariants.{Image}
 use Rattle.oci_manifests.specs.declared.manifest.OciImageManifest.{OciImageManifest}
 use Rattle.engine_terms.specs.declared.settings.Settings.{Settings}
@@ -25,7 +25,7 @@ use Rattle.engine_laws.specs.Causes.{Act, Reads, Sends, AsksAt, Cause, AnswerCau
 use Rattle.engine_laws.specs.Causes.{OwnDigest, ManifestUrl}
 
 -- the call for the tag, by the client state when it begins; no credentials are passed in
-abbrev pub for_tag : Entry → List ℕ → Memory → Entry
+abbrev pub for_tag : Entry → List ℕ → AuthState → Entry
 for_tag x digest between = record {
   kept = between;
   image = fallback_reference x.image digest;
@@ -42,7 +42,7 @@ ListUrl s image digest (Sends request) = (url : Parts) × (request_url (referrer
 
 -- The response for the list has status 404. The exchanges up to it are confined to the image; P holds for those after
 -- it, with the digest and the client state between.
-pub record AfterMissing (x : Entry) (s : Settings) (P : List ℕ → Memory → List Exchange → Type 0)
+pub record AfterMissing (x : Entry) (s : Settings) (P : List ℕ → AuthState → List Exchange → Type 0)
     (c : List Exchange) : Type 0 where
   pub digest : List ℕ
   pub digest_is : digest_of x.image ≡ Some digest
@@ -50,13 +50,13 @@ pub record AfterMissing (x : Entry) (s : Settings) (P : List ℕ → Memory → 
   pub rest : List Exchange
   pub split : c ≡ front ++ rest
   pub missing : ByLast (ListUrl s x.image digest) (λ address answer. answer.status ≡ 404) front
-  pub between : Memory
+  pub between : AuthState
   pub first : Within x s between front
   pub after : P digest between rest
 
 -- The exchanges are confined to the image and, after the list was missing, to the tag: that is another registry only if
 -- the image's mirror is `docker.io`.
-abbrev pub WithinReferrers : Entry → Settings → Memory → List Exchange → Type 0
+abbrev pub WithinReferrers : Entry → Settings → AuthState → List Exchange → Type 0
 WithinReferrers x s l c = Within x s l c
     ⊎ AfterMissing x s (λ digest between rest. Within (for_tag x digest between) s l rest) c
 
@@ -87,7 +87,7 @@ pub record ListCause (x : Entry) (s : Settings) (c : List Exchange) (now : ℕ) 
   pub cause : Cause (ListUrl s x.image digest) ListAnswer (BadHeader x s manifest_types) s c now e
 
 -- of the call for the tag
-abbrev pub TagCause : Entry → Settings → ℕ → OciDistributionError → List ℕ → Memory → List Exchange → Type 0
+abbrev pub TagCause : Entry → Settings → ℕ → OciDistributionError → List ℕ → AuthState → List Exchange → Type 0
 TagCause x s now e digest between rest =
     Cause (ManifestUrl s (fallback_reference x.image digest)) (TagAnswer x.image digest)
     (BadHeader (for_tag x digest between) s manifest_types) s rest now e

@@ -1,6 +1,6 @@
 -- Why the call for a token was refused. Such a refusal is about the last exchange of the call.
 use Rattle.std.specs.Prelude.{◌≡◌, ◌≢◌, ◌<◌, ◌⊎◌, ℕ, false, List, [], ◌∷◌, ◌++◌, Some, None, length}
-use Rattle.json_values.specs.Counts.{Rose}
+use Rattle.json_values.specs.Counts.{Increased}
 use Rattle.oci_transport.specs.Headers.{is_header_value}
 use Rattle.oci_transport.specs.Urls.{request_url}
 use Rattle.oci_transport.specs.declared.message.Answer.{Answer}
@@ -49,7 +49,7 @@ abbrev pub TokenCause : Settings → Reference → RegistryAuth → List Exchang
 TokenCause s image a c now (refusal.UrlParseError text) = (request_url text ≡ None) × TokenUrl s image c text
 TokenCause s image a c now (refusal.GenericError HeaderText) = (is_header_value s.user_agent ≡ false) ⊎ HasBadAuth a
 TokenCause s image a c now refusal.BodyTooLong = LastIs (WithAnswer (λ answer. s.max_body_bytes < length answer.body)) c
-TokenCause s image a c now refusal.TransportFault = LastIs (λ e. Rose e.faults now) c
+TokenCause s image a c now refusal.TransportFault = LastIs (λ e. Increased e.faults now) c
 TokenCause s image a c now (refusal.AuthenticationFailure body) = LastIs (WithAnswer (λ answer.
     (answer.status ≢ 200) × (body ≡ answer.body))) c
 TokenCause s image a c now (refusal.RegistryTokenDecodeError body) = LastIs (WithAnswer (λ answer.

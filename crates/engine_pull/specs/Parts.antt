@@ -1,7 +1,7 @@
 -- The parts of an image that its manifest leads to, and what comes after them.
 use Rattle.std.specs.Prelude.{ℕ, List, [], Result, Ok, Err}
 use Rattle.oci_names.specs.declared.reference.Reference.{Reference}
-use Rattle.oci_auth.specs.declared.memory.Memory.{Memory}
+use Rattle.oci_auth.specs.declared.auth_state.AuthState.{AuthState}
 use Rattle.oci_manifests.specs.declared.blob.Config.{Config}
 use Rattle.oci_manifests.specs.declared.blob.ImageLayer.{ImageLayer}
 use Rattle.oci_manifests.specs.declared.manifest.OciImageManifest.{OciImageManifest}
@@ -30,10 +30,10 @@ with_parts s image accepted manifest next = do
   next (config_of manifest content, layers)
 
 -- whatever comes next, these parts lead to it, or their refusal ends it
-abbrev pub LeadsTo : Context → Reference → List (List ℕ) → OciImageManifest → Link → Link → Memory → Memory
+abbrev pub LeadsTo : Context → Reference → List (List ℕ) → OciImageManifest → Link → Link → AuthState → AuthState
     → Result Parts OciDistributionError → (Parts → Row ImageData) → Type 0
 LeadsTo s image accepted manifest old new k l (Ok parts) next =
-    (end : Link) (j : Memory) (r : Result ImageData OciDistributionError)
+    (end : Link) (j : AuthState) (r : Result ImageData OciDistributionError)
     → Meets is_memory (next parts) new end l j r
     → Meets is_memory (with_parts s image accepted manifest next) old end k j r
 LeadsTo s image accepted manifest old new k l (Err e) next =

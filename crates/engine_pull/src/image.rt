@@ -1,5 +1,5 @@
 // Pulls whole images.
-ghost use Rattle.oci_auth.specs.declared.memory.Memory.{Memory};
+ghost use Rattle.oci_auth.specs.declared.auth_state.AuthState.{AuthState};
 ghost use Rattle.oci_protocol.specs.Runs.{Meets};
 ghost use Rattle.engine_terms.specs.Contexts.{context_of};
 ghost use Rattle.engine_terms.specs.Error.{is_memory};
@@ -14,7 +14,7 @@ use engine_requests::AsLayerDescriptor;
 use engine_rows::{ImageData, config_of, layer_of, layers_accepted};
 use engine_terms::{Call, OciDistributionError};
 use json_values::{List, Text};
-use oci_auth::{Memory, RegistryAuth};
+use oci_auth::{AuthState, RegistryAuth};
 use oci_descriptors::OciDescriptor;
 use oci_manifests::blob::Config;
 use oci_manifests::{ImageLayer, OciImageManifest};
@@ -25,7 +25,7 @@ use std::alloc::Global;
 fn pull_layers<T: Transport>(
     alloc: Global,
     transport: &mut T,
-    memory: &mut Memory,
+    memory: &mut AuthState,
     call: &Call,
     descriptors: &[OciDescriptor],
     mut layers: List<ImageLayer>,
@@ -46,7 +46,7 @@ fn pull_layers<T: Transport>(
 fn pull_parts<T: Transport>(
     alloc: Global,
     transport: &mut T,
-    memory: &mut Memory,
+    memory: &mut AuthState,
     call: &Call,
     accepted: &[Text],
     manifest: &OciImageManifest,
@@ -74,7 +74,7 @@ fn pull_parts<T: Transport>(
 pub fn pull<T: Transport>(
     alloc: Global,
     transport: &mut T,
-    memory: &mut Memory,
+    memory: &mut AuthState,
     call: &Call,
     auth: &RegistryAuth,
     accepted: &[Text],

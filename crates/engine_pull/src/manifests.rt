@@ -14,7 +14,7 @@ use engine_documents::pull_manifest;
 use engine_requests::AsLayerDescriptor;
 use engine_terms::{Call, OciDistributionError};
 use json_values::Text;
-use oci_auth::{Memory, RegistryAuth};
+use oci_auth::{AuthState, RegistryAuth};
 use oci_manifests::{OciImageIndex, OciImageManifest, OciManifest};
 use oci_transport::Transport;
 use std::alloc::Global;
@@ -23,7 +23,7 @@ use std::alloc::Global;
 fn pull_entry<T: Transport>(
     alloc: Global,
     transport: &mut T,
-    memory: &mut Memory,
+    memory: &mut AuthState,
     call: &Call,
     auth: &RegistryAuth,
     digest: &str,
@@ -47,7 +47,7 @@ fn pull_entry<T: Transport>(
 fn index_manifest<T: Transport>(
     alloc: Global,
     transport: &mut T,
-    memory: &mut Memory,
+    memory: &mut AuthState,
     call: &Call,
     auth: &RegistryAuth,
     index: &OciImageIndex,
@@ -67,7 +67,7 @@ fn index_manifest<T: Transport>(
 fn manifest_by<T: Transport>(
     alloc: Global,
     transport: &mut T,
-    memory: &mut Memory,
+    memory: &mut AuthState,
     call: &Call,
     auth: &RegistryAuth,
     document: OciManifest,
@@ -90,7 +90,7 @@ fn manifest_by<T: Transport>(
 pub fn pull_image_manifest_and_list_digest<T: Transport>(
     alloc: Global,
     transport: &mut T,
-    memory: &mut Memory,
+    memory: &mut AuthState,
     call: &Call,
     auth: &RegistryAuth,
 ) -> Result<(OciImageManifest, Text, Option<Text>), OciDistributionError>
@@ -107,7 +107,7 @@ pub fn pull_image_manifest_and_list_digest<T: Transport>(
 pub fn pull_image_manifest<T: Transport>(
     alloc: Global,
     transport: &mut T,
-    memory: &mut Memory,
+    memory: &mut AuthState,
     call: &Call,
     auth: &RegistryAuth,
 ) -> Result<(OciImageManifest, Text), OciDistributionError>
@@ -124,7 +124,7 @@ pub fn pull_image_manifest<T: Transport>(
 pub fn pull_manifest_and_config_and_list_digest<T: Transport>(
     alloc: Global,
     transport: &mut T,
-    memory: &mut Memory,
+    memory: &mut AuthState,
     call: &Call,
     auth: &RegistryAuth,
 ) -> Result<(OciImageManifest, Text, Text, Option<Text>), OciDistributionError>
@@ -144,7 +144,7 @@ pub fn pull_manifest_and_config_and_list_digest<T: Transport>(
 pub fn pull_manifest_and_config<T: Transport>(
     alloc: Global,
     transport: &mut T,
-    memory: &mut Memory,
+    memory: &mut AuthState,
     call: &Call,
     auth: &RegistryAuth,
 ) -> Result<(OciImageManifest, Text, Text), OciDistributionError>

@@ -9,7 +9,7 @@ use Rattle.oci_auth.specs.Auth.{authorization_of}
 use Rattle.oci_auth.specs.Cache.{key_of, token_at}
 use Rattle.oci_auth.specs.Kept.{Key}
 use Rattle.oci_auth.specs.declared.auth.RegistryAuth.{RegistryAuth}
-use Rattle.oci_auth.specs.declared.memory.Memory.{Memory}
+use Rattle.oci_auth.specs.declared.auth_state.AuthState.{AuthState}
 use Rattle.oci_auth.specs.declared.token_type.RegistryOperation.TheVariants.{Push}
 use Rattle.oci_auth.specs.declared.token_type.RegistryTokenType.{RegistryTokenType}
 use Rattle.oci_names.specs.Reference.{resolved_registry}
@@ -22,12 +22,12 @@ use Rattle.oci_transport.specs.declared.message.Method.{Method}
 use Rattle.oci_transport.specs.declared.message.Method.TheVariants.{Post, Patch, Put}
 use Rattle.oci_transport.specs.declared.message.Request.{Request}
 use Rattle.oci_protocol.specs.Ends.{Ends}
-use Rattle.oci_protocol.specs.Shows.{Shows, Heard, ByAnswer}
+use Rattle.oci_protocol.specs.EveryRun.{EveryRun, Heard, ByResult}
 use Rattle.oci_protocol.specs.Proto.{Unread, Within, limit_of, Reply, Headed, Answered, Failed, TooLong, SinkFailed, Done, bind, ◌>>=◌}
 use Rattle.oci_protocol.specs.Runs.{Runs, Meets, Told, head_part}
 use Rattle.oci_protocol.proofs.Conversations.{Extends-more}
 use Rattle.oci_protocol.proofs.Ends.{Ends-any, Ends-bind, Runs-ends}
-use Rattle.oci_protocol.proofs.RunFacts.{done_run, Shows-done, Shows-more, Shows-each, Shows-follow, Meets-shows-err}
+use Rattle.oci_protocol.proofs.RunFacts.{done_run, EveryRun-done, EveryRun-more, EveryRun-each, EveryRun-follow, Meets-shows-err}
 use Rattle.oci_transport.specs.declared.message.Exchange.{Exchange}
 use Rattle.engine_terms.specs.Contexts.{Context}
 use Rattle.engine_terms.specs.Error.{is_memory, ◌>>=◌ as ◌into◌}
@@ -163,21 +163,21 @@ step_later limit c d (refusal.GenericError SizeDiffers) h = h
 step_later limit c d _ h = tt
 
 abbrev Answers : ℕ → {A : Type 0} → ℕ → List Exchange → ℕ → Result A OciDistributionError → Type 0
-Answers limit = ByAnswer (λ m c n a. Unit {0}) (λ m c n e. StepCause limit c e)
+Answers limit = ByResult (λ m c n a. Unit {0}) (λ m c n e. StepCause limit c e)
 
 record Step (limit : ℕ) {A : Type 0} (p : Row A) : Type 0 where
-  shows : Shows (Answers limit) p
+  shows : EveryRun (Answers limit) p
 
 step_answer : {A : Type 0} (limit m n : ℕ) (r : Result A OciDistributionError) → ((e : OciDistributionError) → r ≡ Err e → StepCause limit [] e) → Answers limit m [] n r
 step_answer limit m n (Ok a) h = tt
 step_answer limit m n (Err e) h = h e refl
 
 step_done : {A : Type 0} (limit : ℕ) (r : Result A OciDistributionError) → ((e : OciDistributionError) → r ≡ Err e → StepCause limit [] e) → Step limit (Done r)
-step_done limit r h = record { shows = Shows-done (Answers limit) r (λ m. step_answer limit m m r h) }
+step_done limit r h = record { shows = EveryRun-done (Answers limit) r (λ m. step_answer limit m m r h) }
 
 step_next : {A B : Type 0} (limit : ℕ) (p : Row A) (f : A → Row B) → Step limit p → ((a : A) → Step limit (f a)) → Step limit (p >>= f)
 step_next {A} {B} limit p f first each = record {
-  shows = Shows-each (λ m c n a. Unit {0}) (λ m c n b. Unit {0}) (λ m c n e. StepCause limit c e) p f first.shows (λ m n c a h. Shows-more (Answers limit) (λ start d o r. Answers limit m (c ++ d) o r) (f a) (each a).shows (λ start o d r g. by_answer m start c d o r g));
+  shows = EveryRun-each (λ m c n a. Unit {0}) (λ m c n b. Unit {0}) (λ m c n e. StepCause limit c e) p f first.shows (λ m n c a h. EveryRun-more (Answers limit) (λ start d o r. Answers limit m (c ++ d) o r) (f a) (each a).shows (λ start o d r g. by_answer m start c d o r g));
 } where
   by_answer : (m start : ℕ) (c d : List Exchange) (o : ℕ) (r : Result B OciDistributionError) → Answers limit start d o r → Answers limit m (c ++ d) o r
   by_answer m start c d o (Ok b) g = tt
@@ -234,8 +234,8 @@ limit_is limit n head is = by_test (is_success head.status) is where
 
 location_step : (s : Settings) (image : Reference) (expected : ℕ) (request : Request) → Step s.max_body_bytes (location_after s image expected request)
 unfolding location_after
-location_step s image expected request = record { shows = Shows-follow (Answers s.max_body_bytes) 0 request (unless_success s.max_body_bytes) (location_reply s image expected) each } where
-  each : (k l : Memory) (m after o : ℕ) (c d : List Exchange) (last : Request) (reply : Reply) (a : Result (List ℕ) OciDistributionError) → Heard 0 request (unless_success s.max_body_bytes) m c after last reply → Runs (location_reply s image expected last reply) k after d o l a → Answers s.max_body_bytes m (c ++ d) o a
+location_step s image expected request = record { shows = EveryRun-follow (Answers s.max_body_bytes) 0 request (unless_success s.max_body_bytes) (location_reply s image expected) each } where
+  each : (k l : AuthState) (m after o : ℕ) (c d : List Exchange) (last : Request) (reply : Reply) (a : Result (List ℕ) OciDistributionError) → Heard 0 request (unless_success s.max_body_bytes) m c after last reply → Runs (location_reply s image expected last reply) k after d o l a → Answers s.max_body_bytes m (c ++ d) o a
   each k l m after o c d last (Headed head) a h run = done_run (λ start d o a. Answers s.max_body_bytes m (c ++ d) o a) _ k l after o d a (other_answer s.max_body_bytes m after (c ++ []) (located s image expected last.url head) (located_other s image expected last.url head)) run
   each k l m after o c d last (Answered answer) a h run = done_run (λ start d o a. Answers s.max_body_bytes m (c ++ d) o a) _ k l after o d a tt run
   each k l m after o c d last Failed a h run = done_run (λ start d o a. Answers s.max_body_bytes m (c ++ d) o a) _ k l after o d a tt run
@@ -277,7 +277,7 @@ StepTold limit old new (refusal.GenericError NoSize) = ⊥
 StepTold limit old new (refusal.GenericError SizeDiffers) = ⊥
 StepTold limit old new _ = Unit {0}
 
-step_told : {A : Type 0} (limit : ℕ) (p : Row A) {old new : Link} {k l : Memory} (e : OciDistributionError) → Step limit p → Meets is_memory p old new k l (Err e) → StepTold limit old new e
+step_told : {A : Type 0} (limit : ℕ) (p : Row A) {old new : Link} {k l : AuthState} (e : OciDistributionError) → Step limit p → Meets is_memory p old new k l (Err e) → StepTold limit old new e
 step_told limit p refusal.BodyTooLong step met = Meets-shows-err (Answers limit) refl step.shows met
 step_told limit p refusal.SourceFault step met = (Meets-shows-err (Answers limit) refl step.shows met).holds
 step_told limit p refusal.PushNoDataError step met = (Meets-shows-err (Answers limit) refl step.shows met).holds
@@ -285,11 +285,11 @@ step_told limit p (refusal.GenericError NoSize) step met = (Meets-shows-err (Ans
 step_told limit p (refusal.GenericError SizeDiffers) step met = (Meets-shows-err (Answers limit) refl step.shows met).holds
 step_told limit p _ step met = tt
 
-pub begun_told : (s : Context) (image : Reference) {old new : Link} {k l : Memory} (e : OciDistributionError) → Meets is_memory (upload_begun s image) old new k l (Err e) → StepTold s.settings.max_body_bytes old new e
+pub begun_told : (s : Context) (image : Reference) {old new : Link} {k l : AuthState} (e : OciDistributionError) → Meets is_memory (upload_begun s image) old new k l (Err e) → StepTold s.settings.max_body_bytes old new e
 begun_told s image e met = step_told s.settings.max_body_bytes (upload_begun s image) e (begun_step s image) met
 
-pub ended_told : (s : Context) (image : Reference) (digest location : List ℕ) (content : Content) {old new : Link} {k l : Memory} (e : OciDistributionError) → Meets is_memory (upload_ended s image digest location content) old new k l (Err e) → StepTold s.settings.max_body_bytes old new e
+pub ended_told : (s : Context) (image : Reference) (digest location : List ℕ) (content : Content) {old new : Link} {k l : AuthState} (e : OciDistributionError) → Meets is_memory (upload_ended s image digest location content) old new k l (Err e) → StepTold s.settings.max_body_bytes old new e
 ended_told s image digest location content e met = step_told s.settings.max_body_bytes (upload_ended s image digest location content) e (ended_step s image digest location content) met
 
-pub chunks_told : (s : Context) (image : Reference) (location : List ℕ) (start : ℕ) (parts : List (List ℕ)) {old new : Link} {k l : Memory} (e : OciDistributionError) → Meets is_memory (chunks_sent s image location start parts) old new k l (Err e) → StepTold s.settings.max_body_bytes old new e
+pub chunks_told : (s : Context) (image : Reference) (location : List ℕ) (start : ℕ) (parts : List (List ℕ)) {old new : Link} {k l : AuthState} (e : OciDistributionError) → Meets is_memory (chunks_sent s image location start parts) old new k l (Err e) → StepTold s.settings.max_body_bytes old new e
 chunks_told s image location start parts e met = step_told s.settings.max_body_bytes (chunks_sent s image location start parts) e (chunks_step s image location start parts) met

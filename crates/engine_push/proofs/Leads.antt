@@ -5,7 +5,7 @@ use Rattle.std.specs.Result.{IsErrAnd}
 use Rattle.std.proofs.lemmas.List.{take-append-drop as take-drop}
 use Rattle.oci_names.specs.declared.reference.Reference.{Reference}
 use Rattle.oci_transport.specs.Link.{Link}
-use Rattle.oci_auth.specs.declared.memory.Memory.{Memory}
+use Rattle.oci_auth.specs.declared.auth_state.AuthState.{AuthState}
 use Rattle.oci_protocol.specs.Proto.{◌>>=◌}
 use Rattle.oci_protocol.specs.Runs.{Meets}
 use Rattle.engine_terms.specs.Contexts.{Context}
@@ -17,13 +17,13 @@ use Rattle.engine_rows.proofs.Exits.{refused, wanting, and_then, done}
 use Rattle.engine_push.specs.Uploads.{chunk_size, first_chunks, chunks, chunk_sent, chunks_sent}
 use Rattle.engine_push.proofs.Carried.{Carries, CarriesFront, carries_none, carries_more, carries_front, front_behind_more, front_of_more}
 
-pub record LeadsTo {A : Type 0} (p q : Row A) (old mid : Link) (k j : Memory) : Type 0 where
-  pub met : (new : Link) (l : Memory) (r : Result A OciDistributionError) → Meets is_memory q mid new j l r → Meets is_memory p old new k l r
+pub record LeadsTo {A : Type 0} (p q : Row A) (old mid : Link) (k j : AuthState) : Type 0 where
+  pub met : (new : Link) (l : AuthState) (r : Result A OciDistributionError) → Meets is_memory q mid new j l r → Meets is_memory p old new k l r
 
-pub leads_start : {A : Type 0} (p : Row A) (link : Link) (k : Memory) → LeadsTo p p link link k k
+pub leads_start : {A : Type 0} (p : Row A) (link : Link) (k : AuthState) → LeadsTo p p link link k k
 leads_start p link k = record { met = λ new l r h. h }
 
-pub leads_next : {A B : Type 0} {p : Row A} (q : Row B) (f : B → Row A) {old mid new : Link} {k j l : Memory} {b : B} → LeadsTo p (q >>= f) old mid k j → Meets is_memory q mid new j l (Ok b) → LeadsTo p (f b) old new k l
+pub leads_next : {A B : Type 0} {p : Row A} (q : Row B) (f : B → Row A) {old mid new : Link} {k j l : AuthState} {b : B} → LeadsTo p (q >>= f) old mid k j → Meets is_memory q mid new j l (Ok b) → LeadsTo p (f b) old new k l
 leads_next q f lead met = record { met = λ new l r h. lead.met new l r (and_then f met h) }
 
 -- ---- chunks
@@ -64,7 +64,7 @@ none_left zero = refl
 none_left (suc n) = refl
 
 -- these bytes of them were sent, and those are left
-pub record Chunking (s : Context) (image : Reference) (first : List ℕ) (from : ℕ) (bytes location : List ℕ) (start : ℕ) (left : List ℕ) (old mid : Link) (k j : Memory) : Type 0 where
+pub record Chunking (s : Context) (image : Reference) (first : List ℕ) (from : ℕ) (bytes location : List ℕ) (start : ℕ) (left : List ℕ) (old mid : Link) (k j : AuthState) : Type 0 where
   pub times : ℕ
   pub enough : length left ≤ times
   pub leads : LeadsTo (chunks_sent s image first from (chunks bytes)) (chunks_sent s image location start (first_chunks times left)) old mid k j
@@ -73,10 +73,10 @@ pub record Chunking (s : Context) (image : Reference) (first : List ℕ) (from :
   pub carried : Carries gone old mid
   pub fits : start + length left < 2 ^ 64
 
-pub chunking_start : (s : Context) (image : Reference) (location : List ℕ) (from : ℕ) (bytes : List ℕ) (link : Link) (k : Memory) → from + length bytes < 2 ^ 64 → Chunking s image location from bytes location from bytes link link k k
+pub chunking_start : (s : Context) (image : Reference) (location : List ℕ) (from : ℕ) (bytes : List ℕ) (link : Link) (k : AuthState) → from + length bytes < 2 ^ 64 → Chunking s image location from bytes location from bytes link link k k
 chunking_start s image location from bytes link k fits = record { times = length bytes; enough = omega arith; leads = leads_start _ link k; gone = []; split = refl; carried = carries_none link; fits = fits }
 
-module _ (s : Context) (image : Reference) (first : List ℕ) (from : ℕ) (bytes location : List ℕ) (start : ℕ) (left : List ℕ) {old mid : Link} {k j : Memory} (chunking : Chunking s image first from bytes location start left old mid k j) where
+module _ (s : Context) (image : Reference) (first : List ℕ) (from : ℕ) (bytes location : List ℕ) (start : ℕ) (left : List ℕ) {old mid : Link} {k j : AuthState} (chunking : Chunking s image first from bytes location start left old mid k j) where
   -- all were sent
   pub chunking_met : length left ≡ 0 → Meets is_memory (chunks_sent s image first from (chunks bytes)) old mid k j (Ok location)
   unfolding chunks_sent
@@ -103,7 +103,7 @@ module _ (s : Context) (image : Reference) (first : List ℕ) (from : ℕ) (byte
   unfolding chunks_sent
   next_leads some = subst (λ parts. LeadsTo (chunks_sent s image first from (chunks bytes)) (chunks_sent s image location start parts) old mid k j) (unrolled chunking.times left some chunking.enough).is chunking.leads
 
-  pub chunking_refused : {new : Link} {l : Memory} (chunk : List ℕ) (e : OciDistributionError) (r : Result (List ℕ) OciDistributionError) → 0 < length left → chunk ≡ take (min (length left) chunk_size) left → Meets is_memory (chunk_sent s image location start chunk) mid new j l (Err e) → IsErrAnd r (λ x. x ≡ e)
+  pub chunking_refused : {new : Link} {l : AuthState} (chunk : List ℕ) (e : OciDistributionError) (r : Result (List ℕ) OciDistributionError) → 0 < length left → chunk ≡ take (min (length left) chunk_size) left → Meets is_memory (chunk_sent s image location start chunk) mid new j l (Err e) → IsErrAnd r (λ x. x ≡ e)
       → Meets is_memory (chunks_sent s image first from (chunks bytes)) old new k l r
   chunking_refused {new} {l} chunk e r some is met same = (next_leads some).met new l r (refused _ (subst (λ part. Meets is_memory (chunk_sent s image location start part) mid new j l (Err e)) (is ∙ take_least chunk_size left) met) same)
 
@@ -113,7 +113,7 @@ module _ (s : Context) (image : Reference) (first : List ℕ) (from : ℕ) (byte
   pub chunking_part : {new : Link} (chunk : List ℕ) → chunk ≡ take (min (length left) chunk_size) left → CarriesFront chunk mid new → CarriesFront bytes old new
   chunking_part {new} chunk is sends = subst (λ all. CarriesFront all old new) (sym (front_split chunk is)) (front_of_more (drop chunk_size left) (front_behind_more chunking.carried sends))
 
-  pub chunking_more : {new : Link} {l : Memory} (chunk rest next : List ℕ) (count : ℕ) → 0 < length left → chunk ≡ take (min (length left) chunk_size) left → rest ≡ drop (min (length left) chunk_size) left → count ≡ start + length chunk → Meets is_memory (chunk_sent s image location start chunk) mid new j l (Ok next) → Carries chunk mid new
+  pub chunking_more : {new : Link} {l : AuthState} (chunk rest next : List ℕ) (count : ℕ) → 0 < length left → chunk ≡ take (min (length left) chunk_size) left → rest ≡ drop (min (length left) chunk_size) left → count ≡ start + length chunk → Meets is_memory (chunk_sent s image location start chunk) mid new j l (Ok next) → Carries chunk mid new
       → Chunking s image first from bytes next count rest old new k l
   chunking_more {new} {l} chunk rest next count some is rest_is count_is met sent =
       let chunk_is : chunk ≡ take chunk_size left = is ∙ take_least chunk_size left in

@@ -5,15 +5,15 @@ use Rattle.std.specs.Io.KnownBytes.{Consumes, IsAtEnd}
 use Rattle.std.specs.Result.{IsErrAnd}
 use Rattle.std.proofs.lemmas.Result.{err_from_is_err_and}
 use Rattle.std.proofs.lemmas.Bool.Decides.{nat_tests}
-use Rattle.json_values.specs.Counts.{Rose}
+use Rattle.json_values.specs.Counts.{Increased}
 use Rattle.oci_digests.specs.declared.digester.Digester.{Digester}
 use Rattle.oci_names.specs.declared.reference.Reference.{Reference}
 use Rattle.oci_transport.specs.Link.{Link}
-use Rattle.oci_auth.specs.declared.memory.Memory.{Memory}
+use Rattle.oci_auth.specs.declared.auth_state.AuthState.{AuthState}
 use Rattle.oci_protocol.specs.Proto.{Done, ◌>>=◌}
 use Rattle.oci_protocol.specs.Runs.{Meets, Told}
 use Rattle.oci_protocol.proofs.Laws.{Meets-consult, Meets-err, Meets-ok, Meets-memory, Meets-refused}
-use Rattle.pull_edge.specs.Source.{Spring, Takes}
+use Rattle.pull_edge.specs.Source.{SourceState, Takes}
 use Rattle.pull_edge.proofs.Springs.{Consumes-none, Consumes-then}
 use Rattle.engine_terms.specs.Contexts.{Context}
 use Rattle.engine_terms.specs.Error.{is_memory}
@@ -21,11 +21,11 @@ use Rattle.engine_terms.specs.declared.error.OciDistributionError.{OciDistributi
 use Rattle.engine_terms.specs.declared.error.OciDistributionError.TheVariants as refusal
 use Rattle.engine_rows.specs.Rows.{Row}
 use Rattle.engine_rows.proofs.Exits.{refused, wanting, and_then, said, done}
-use Rattle.engine_push.specs.Bodies.{bodies, IsFront}
+use Rattle.engine_push.specs.Bodies.{bodies, IsPrefix}
 use Rattle.engine_terms.specs.declared.error.GenericCause.TheVariants.{NoSize, SizeDiffers}
 use Rattle.oci_transport.specs.declared.message.Exchange.{Exchange}
 use Rattle.engine_push.proofs.Endings.{StepTold, told_long}
-use Rattle.engine_push.specs.Sources.{TookMore, NoPiece, NotHeld, NotSent, SourceCause, IsFrontOf, Pushes, Gives, Hashed, sent_in}
+use Rattle.engine_push.specs.Sources.{TookMore, NoPiece, NotHeld, NotSent, SourceCause, IsPrefixOf, Pushes, AllConsumed, Hashed, sent_in}
 use Rattle.engine_push.specs.Uploads.{Sent, chunks, chunks_sent, piece_of, next_piece, no_longer, unless_last, pieces_sent, all_sent, pieces_read, all_read}
 use Rattle.engine_push.specs.declared.pieces.Upload.{Upload}
 use Rattle.engine_push.proofs.Carried.{Carries, CarriesFront, carries_none, carries_more}
@@ -33,15 +33,15 @@ use Rattle.engine_push.proofs.Leads.{LeadsTo, leads_start, leads_next}
 
 -- ---- the next piece
 
-pub piece_given : (piece : List ℕ) (link : Link) (k : Memory) → Meets is_memory next_piece link link k k (Ok piece)
+pub piece_given : (piece : List ℕ) (link : Link) (k : AuthState) → Meets is_memory next_piece link link k k (Ok piece)
 unfolding next_piece
 piece_given piece link k = Meets-consult (λ said. Done (piece_of said)) (Some piece) (Meets-ok is_memory link k piece)
 
-pub piece_failed : (link : Link) (k : Memory) → Meets is_memory next_piece link link k k (Err refusal.SourceFault)
+pub piece_failed : (link : Link) (k : AuthState) → Meets is_memory next_piece link link k k (Err refusal.SourceFault)
 unfolding next_piece
 piece_failed link k = Meets-consult (λ said. Done (piece_of said)) None (Meets-err is_memory link k refusal.SourceFault refl)
 
-pub piece_wanting : (link : Link) (k : Memory) → Meets is_memory next_piece link link k k (Err refusal.WantOfMemory)
+pub piece_wanting : (link : Link) (k : AuthState) → Meets is_memory next_piece link link k k (Err refusal.WantOfMemory)
 piece_wanting link k = Meets-memory is_memory next_piece link k refusal.WantOfMemory refl
 
 is_longer : (left : ℕ) (piece : List ℕ) → left < length piece → no_longer left piece ≡ Err refusal.BodyTooLong
@@ -69,25 +69,25 @@ nil_of [] none = refl
 nil_of (x ∷ xs) none = absurd (omega (arith, none))
 
 -- a piece that is not the last one continues
-on_piece : {A : Type 0} {p : Row A} (left : ℕ) (piece : List ℕ) (end : Row A) (next : List ℕ → Row A) {old mid : Link} {k j : Memory} → 0 < length piece → length piece ≤ left → LeadsTo p (Done (no_longer left piece) >>= λ piece. unless_last piece end (next piece)) old mid k j → LeadsTo p (next piece) old mid k j
+on_piece : {A : Type 0} {p : Row A} (left : ℕ) (piece : List ℕ) (end : Row A) (next : List ℕ → Row A) {old mid : Link} {k j : AuthState} → 0 < length piece → length piece ≤ left → LeadsTo p (Done (no_longer left piece) >>= λ piece. unless_last piece end (next piece)) old mid k j → LeadsTo p (next piece) old mid k j
 on_piece {p = p} left piece end next {mid = mid} {j = j} some small lead = record {
   met = λ new l r h. lead.met new l r (and_then (λ piece. unless_last piece end (next piece)) (said (Ok piece) (is_no_longer left piece small)) (subst (λ row. Meets is_memory row mid new j l r) (sym (not_last piece end (next piece) some)) h));
 }
 
 -- the last one ends it
-on_last : {A : Type 0} {p : Row A} (left : ℕ) (piece : List ℕ) (end : Row A) (next : List ℕ → Row A) {old mid : Link} {k j : Memory} → length piece ≡ 0 → LeadsTo p (Done (no_longer left piece) >>= λ piece. unless_last piece end (next piece)) old mid k j → LeadsTo p end old mid k j
+on_last : {A : Type 0} {p : Row A} (left : ℕ) (piece : List ℕ) (end : Row A) (next : List ℕ → Row A) {old mid : Link} {k j : AuthState} → length piece ≡ 0 → LeadsTo p (Done (no_longer left piece) >>= λ piece. unless_last piece end (next piece)) old mid k j → LeadsTo p end old mid k j
 on_last left piece end next {mid = mid} {j = j} none lead = record {
   met = λ new l r h. lead.met new l r (and_then (λ piece. unless_last piece end (next piece)) (said (Ok piece) (is_no_longer left piece (omega (arith, none)))) (subst (λ row. Meets is_memory row mid new j l r) (sym (is_last piece end (next piece) none)) h));
 }
 
 -- one that is too long is refused
-on_longer : {A : Type 0} {p : Row A} (left : ℕ) (piece : List ℕ) (f : List ℕ → Row A) {old mid : Link} {k j : Memory} → left < length piece → LeadsTo p (Done (no_longer left piece) >>= f) old mid k j → Meets is_memory p old mid k j (Err refusal.BodyTooLong)
+on_longer : {A : Type 0} {p : Row A} (left : ℕ) (piece : List ℕ) (f : List ℕ → Row A) {old mid : Link} {k j : AuthState} → left < length piece → LeadsTo p (Done (no_longer left piece) >>= f) old mid k j → Meets is_memory p old mid k j (Err refusal.BodyTooLong)
 on_longer left piece f {mid = mid} {j = j} longer lead = lead.met mid j (Err refusal.BodyTooLong) (Meets-refused f (said (Err refusal.BodyTooLong) (is_longer left piece longer)))
 
 -- ---- pieces that are sent
 
 -- these bytes were taken and sent
-pub record Pumping (s : Context) (image : Reference) (first location : List ℕ) (size : ℕ) (digester : Option Digester) (before now : Spring) (old mid : Link) (k j : Memory) : Type 0 where
+pub record Pumping (s : Context) (image : Reference) (first location : List ℕ) (size : ℕ) (digester : Option Digester) (before now : SourceState) (old mid : Link) (k j : AuthState) : Type 0 where
   pub times : ℕ
   pub bytes : List ℕ
   pub size_is : size ≡ length bytes
@@ -99,8 +99,8 @@ pub record Pumping (s : Context) (image : Reference) (first location : List ℕ)
   pub carried : Carries bytes old mid
   pub count : before.faults ≤ now.faults
 
-pub pumping_start : (s : Context) (image : Reference) (location : List ℕ) (digester : Option Digester) (spring : Spring) (link : Link) (k : Memory) → Hashed digester [] → Pumping s image location location 0 digester spring spring link link k k
-pumping_start s image location digester spring link k hashed = record {
+pub pumping_start : (s : Context) (image : Reference) (location : List ℕ) (digester : Option Digester) (source : SourceState) (link : Link) (k : AuthState) → Hashed digester [] → Pumping s image location location 0 digester source source link link k k
+pumping_start s image location digester source link k hashed = record {
   times = suc s.settings.max_body_bytes;
   bytes = [];
   size_is = refl;
@@ -108,12 +108,12 @@ pumping_start s image location digester spring link k hashed = record {
   more = omega arith;
   leads = let same : s.settings.max_body_bytes ≡ s.settings.max_body_bytes - 0 = omega arith in subst (λ left. LeadsTo (all_sent s image location) (pieces_sent (suc s.settings.max_body_bytes) left s image location []) link link k k) same (leads_start (all_sent s image location) link k);
   hashed = hashed;
-  taken = Consumes-none spring.left;
+  taken = Consumes-none source.left;
   carried = carries_none link;
   count = omega arith;
 }
 
-module _ (s : Context) (image : Reference) (first location : List ℕ) (size : ℕ) (digester : Option Digester) {before now : Spring} {old mid : Link} {k j : Memory} (pumping : Pumping s image first location size digester before now old mid k j) where
+module _ (s : Context) (image : Reference) (first location : List ℕ) (size : ℕ) (digester : Option Digester) {before now : SourceState} {old mid : Link} {k j : AuthState} (pumping : Pumping s image first location size digester before now old mid k j) where
   abbrev left : ℕ
   left = s.settings.max_body_bytes - size
 
@@ -153,12 +153,12 @@ module _ (s : Context) (image : Reference) (first location : List ℕ) (size : �
   next_sent : (piece : List ℕ) → 0 < length piece → length piece ≤ left → LeadsTo (all_sent s image first) (Next opened.fewer piece) old mid k j
   next_sent piece some small = on_piece left piece End (Next opened.fewer) some small (asked piece)
 
-  pub pump_cut : {new : Link} {l : Memory} (piece : List ℕ) (e : OciDistributionError) (r : Result Upload OciDistributionError) → 0 < length piece → length piece ≤ left → Meets is_memory (chunks_sent s image location size (chunks piece)) mid new j l (Err e) → IsErrAnd r (λ x. x ≡ e) → Meets is_memory (all_sent s image first) old new k l (sent_in [] r)
+  pub pump_cut : {new : Link} {l : AuthState} (piece : List ℕ) (e : OciDistributionError) (r : Result Upload OciDistributionError) → 0 < length piece → length piece ≤ left → Meets is_memory (chunks_sent s image location size (chunks piece)) mid new j l (Err e) → IsErrAnd r (λ x. x ≡ e) → Meets is_memory (all_sent s image first) old new k l (sent_in [] r)
   pump_cut {new} {l} piece e r some small met is =
       let at = err_from_is_err_and r is in
       rw (at.1, at.2) ((next_sent piece some small).met new l (Err e) (Meets-refused _ (subst (λ start. Meets is_memory (chunks_sent s image location start (chunks piece)) mid new j l (Err e)) pumping.size_is met)))
 
-  pub pumped : {new : Link} {l : Memory} {after : Spring} (piece next : List ℕ) (digester : Option Digester) (count : ℕ) → 0 < length piece → length piece ≤ left → count ≡ size + length piece → Meets is_memory (chunks_sent s image location size (chunks piece)) mid new j l (Ok next) → Carries piece mid new → Takes piece now after → now.faults ≤ after.faults → Hashed digester (pumping.bytes ++ piece)
+  pub pumped : {new : Link} {l : AuthState} {after : SourceState} (piece next : List ℕ) (digester : Option Digester) (count : ℕ) → 0 < length piece → length piece ≤ left → count ≡ size + length piece → Meets is_memory (chunks_sent s image location size (chunks piece)) mid new j l (Ok next) → Carries piece mid new → Takes piece now after → now.faults ≤ after.faults → Hashed digester (pumping.bytes ++ piece)
       → Pumping s image first next count digester before after old new k l
   pumped {new} {l} {after} piece next digester count some small count_is met sent taken rises hashed =
       let sum : count ≡ length (pumping.bytes ++ piece) = omega (arith, count_is, pumping.size_is, length-append pumping.bytes piece) in
@@ -178,25 +178,25 @@ module _ (s : Context) (image : Reference) (first location : List ℕ) (size : �
 
 -- ---- pieces that are held in memory
 
-pub record Holding (limit : ℕ) (held : List ℕ) (before now : Spring) : Type 0 where
+pub record Holding (limit : ℕ) (held : List ℕ) (before now : SourceState) : Type 0 where
   pub times : ℕ
   pub small : length held ≤ limit
   pub more : limit - length held < times
-  pub leads : (link : Link) (k : Memory) → LeadsTo (all_read limit) (pieces_read times (limit - length held) held) link link k k
+  pub leads : (link : Link) (k : AuthState) → LeadsTo (all_read limit) (pieces_read times (limit - length held) held) link link k k
   pub taken : Takes held before now
   pub count : before.faults ≤ now.faults
 
-pub holding_start : (limit : ℕ) (spring : Spring) → Holding limit [] spring spring
-holding_start limit spring = record {
+pub holding_start : (limit : ℕ) (source : SourceState) → Holding limit [] source source
+holding_start limit source = record {
   times = suc limit;
   small = omega arith;
   more = omega arith;
   leads = λ link k. let same : limit ≡ limit - 0 = omega arith in subst (λ left. LeadsTo (all_read limit) (pieces_read (suc limit) left []) link link k k) same (leads_start (all_read limit) link k);
-  taken = Consumes-none spring.left;
+  taken = Consumes-none source.left;
   count = omega arith;
 }
 
-module _ (limit : ℕ) (held : List ℕ) {before now : Spring} (holding : Holding limit held before now) where
+module _ (limit : ℕ) (held : List ℕ) {before now : SourceState} (holding : Holding limit held before now) where
   abbrev room : ℕ
   room = limit - length held
 
@@ -212,31 +212,31 @@ module _ (limit : ℕ) (held : List ℕ) {before now : Spring} (holding : Holdin
   record Begun : Type 0 where
     fewer : ℕ
     enough : room ≤ fewer
-    leads : (link : Link) (k : Memory) → LeadsTo (all_read limit) (next_piece >>= Wanted fewer) link link k k
+    leads : (link : Link) (k : AuthState) → LeadsTo (all_read limit) (next_piece >>= Wanted fewer) link link k k
 
   begun : Begun
   unfolding pieces_read
   begun = by_times holding.times holding.more holding.leads where
-    by_times : (times : ℕ) → room < times → ((link : Link) (k : Memory) → LeadsTo (all_read limit) (pieces_read times room held) link link k k) → Begun
+    by_times : (times : ℕ) → room < times → ((link : Link) (k : AuthState) → LeadsTo (all_read limit) (pieces_read times room held) link link k k) → Begun
     by_times zero more leads = absurd (omega (arith, more))
     by_times (suc n) more leads = record { fewer = n; enough = omega (arith, more); leads = leads }
 
-  wanted : (piece : List ℕ) (link : Link) (k : Memory) → LeadsTo (all_read limit) (Wanted begun.fewer piece) link link k k
+  wanted : (piece : List ℕ) (link : Link) (k : AuthState) → LeadsTo (all_read limit) (Wanted begun.fewer piece) link link k k
   wanted piece link k = leads_next next_piece (Wanted begun.fewer) (begun.leads link k) (piece_given piece link k)
 
-  pub hold_refused : (e : OciDistributionError) (r : Result (List ℕ) OciDistributionError) → ((link : Link) (k : Memory) → Meets is_memory next_piece link link k k (Err e)) → IsErrAnd r (λ x. x ≡ e) → (link : Link) (k : Memory) → Meets is_memory (all_read limit) link link k k r
+  pub hold_refused : (e : OciDistributionError) (r : Result (List ℕ) OciDistributionError) → ((link : Link) (k : AuthState) → Meets is_memory next_piece link link k k (Err e)) → IsErrAnd r (λ x. x ≡ e) → (link : Link) (k : AuthState) → Meets is_memory (all_read limit) link link k k r
   hold_refused e r met is link k = (begun.leads link k).met link k r (refused (Wanted begun.fewer) (met link k) is)
 
-  pub hold_longer : (piece : List ℕ) → room < length piece → (link : Link) (k : Memory) → Meets is_memory (all_read limit) link link k k (Err refusal.BodyTooLong)
+  pub hold_longer : (piece : List ℕ) → room < length piece → (link : Link) (k : AuthState) → Meets is_memory (all_read limit) link link k k (Err refusal.BodyTooLong)
   hold_longer piece longer link k = on_longer room piece _ longer (wanted piece link k)
 
-  pub hold_ended : (piece : List ℕ) → length piece ≡ 0 → (link : Link) (k : Memory) → Meets is_memory (all_read limit) link link k k (Ok held)
+  pub hold_ended : (piece : List ℕ) → length piece ≡ 0 → (link : Link) (k : AuthState) → Meets is_memory (all_read limit) link link k k (Ok held)
   hold_ended piece none link k = (on_last room piece Held (Onward begun.fewer) none (wanted piece link k)).met link k _ done
 
-  pub hold_wanting : (r : Result (List ℕ) OciDistributionError) → IsErrAnd r (λ e. e ≡ refusal.WantOfMemory) → (link : Link) (k : Memory) → Meets is_memory (all_read limit) link link k k r
+  pub hold_wanting : (r : Result (List ℕ) OciDistributionError) → IsErrAnd r (λ e. e ≡ refusal.WantOfMemory) → (link : Link) (k : AuthState) → Meets is_memory (all_read limit) link link k k r
   hold_wanting r is link k = wanting is
 
-  pub held_more : {after : Spring} (piece : List ℕ) → 0 < length piece → length piece ≤ room → Takes piece now after → now.faults ≤ after.faults → Holding limit (held ++ piece) before after
+  pub held_more : {after : SourceState} (piece : List ℕ) → 0 < length piece → length piece ≤ room → Takes piece now after → now.faults ≤ after.faults → Holding limit (held ++ piece) before after
   held_more {after} piece some small taken rises =
       let sum : length (held ++ piece) ≡ length held + length piece = length-append held piece in
       let rest : room - length piece ≡ limit - length (held ++ piece) = omega (arith, sum) in
@@ -251,31 +251,31 @@ module _ (limit : ℕ) (held : List ℕ) {before now : Spring} (holding : Holdin
 
 -- ---- what is left of a source
 
-pub all_taken : (before now after : Spring) (bytes piece : List ℕ) → Takes bytes before now → Takes piece now after → length piece ≡ 0 → Takes bytes before after
+pub all_taken : (before now after : SourceState) (bytes piece : List ℕ) → Takes bytes before now → Takes piece now after → length piece ≡ 0 → Takes bytes before after
 all_taken before now after bytes piece first second none = subst (λ xs. Takes xs before after) (ap (λ xs. bytes ++ xs) (nil_of piece none) ∙ append-nil bytes) (Consumes-then before.left now.left after.left bytes piece first second)
 
-pub front_of_left : (before now : Spring) (bytes : List ℕ) {old new : Link} → Takes bytes before now → CarriesFront bytes old new → Told (λ c. IsFrontOf (bodies c) before.left) old new
+pub front_of_left : (before now : SourceState) (bytes : List ℕ) {old new : Link} → Takes bytes before now → CarriesFront bytes old new → Told (λ c. IsPrefixOf (bodies c) before.left) old new
 front_of_left before now bytes taken told = record { conversation = told.conversation; told = told.told; holds = by_left before.left now.left taken told.holds } where
-  by_left : (all rest : Option (List ℕ)) → Consumes all rest bytes → IsFront (bodies told.conversation) bytes → IsFrontOf (bodies told.conversation) all
+  by_left : (all rest : Option (List ℕ)) → Consumes all rest bytes → IsPrefix (bodies told.conversation) bytes → IsPrefixOf (bodies told.conversation) all
   by_left None rest taken front = tt
   by_left (Some all) None taken front = absurd taken
   by_left (Some all) (Some rest) taken front = (front.0 ++ rest, taken ∙ ap (λ xs. xs ++ rest) front.1 ∙ append_assoc (bodies told.conversation) front.0 rest)
 
 -- nothing was sent
-pub none_of_left : (before : Spring) {old new : Link} → CarriesFront [] old new → Told (λ c. IsFrontOf (bodies c) before.left) old new
+pub none_of_left : (before : SourceState) {old new : Link} → CarriesFront [] old new → Told (λ c. IsPrefixOf (bodies c) before.left) old new
 none_of_left before told = front_of_left before before [] (Consumes-none before.left) told
 
-pub pushes_all : (before after : Spring) (bytes : List ℕ) {old new : Link} → Takes bytes before after → IsAtEnd after.left → Carries bytes old new → Told (λ c. Takes (bodies c) before after) old new × IsAtEnd after.left
+pub pushes_all : (before after : SourceState) (bytes : List ℕ) {old new : Link} → Takes bytes before after → IsAtEnd after.left → Carries bytes old new → Told (λ c. Takes (bodies c) before after) old new × IsAtEnd after.left
 pushes_all before after bytes taken end told = (record { conversation = told.conversation; told = told.told; holds = subst (λ xs. Takes xs before after) (sym told.holds) taken }, end)
 
 -- a call that returned an error
-pub pushes_refused : {A E : Type 0} (before after : Spring) {old new : Link} (r : Result A E) (e : E) → IsErrAnd r (λ x. x ≡ e) → Told (λ c. IsFrontOf (bodies c) before.left) old new → Pushes before after old new r
+pub pushes_refused : {A E : Type 0} (before after : SourceState) {old new : Link} (r : Result A E) (e : E) → IsErrAnd r (λ x. x ≡ e) → Told (λ c. IsPrefixOf (bodies c) before.left) old new → Pushes before after old new r
 pushes_refused before after r e is told = let at = err_from_is_err_and r is in rw at.1 told
 
-pub gives_refused : {E : Type 0} (before after : Spring) (r : Result (List ℕ) E) (e : E) → IsErrAnd r (λ x. x ≡ e) → Gives before after r
+pub gives_refused : {E : Type 0} (before after : SourceState) (r : Result (List ℕ) E) (e : E) → IsErrAnd r (λ x. x ≡ e) → AllConsumed before after r
 gives_refused before after r e is = let at = err_from_is_err_and r is in rw at.1 tt
 
-rose_on : (a b c : ℕ) → a ≤ b → Rose b c → Rose a c
+rose_on : (a b c : ℕ) → a ≤ b → Increased b c → Increased a c
 rose_on a b c le rose = omega (arith, le, rose)
 
 -- ---- refusals
@@ -284,20 +284,20 @@ rose_on a b c le rose = omega (arith, le, rose)
 pub err_is : {A : Type 0} (P : OciDistributionError → Type 0) (r : Result A OciDistributionError) (e : OciDistributionError) → IsErrAnd r (λ x. x ≡ e) → P e → IfErr r P
 err_is P r e is h = let at = err_from_is_err_and r is in rw (at.1, at.2) h
 
-pub no_piece_held : (limit : ℕ) (before now after : Spring) (e : OciDistributionError) → before.faults ≤ now.faults → NoPiece now after e → NotHeld limit before after e
+pub no_piece_held : (limit : ℕ) (before now after : SourceState) (e : OciDistributionError) → before.faults ≤ now.faults → NoPiece now after e → NotHeld limit before after e
 no_piece_held limit before now after refusal.SourceFault le h = rose_on before.faults now.faults after.faults le h
 no_piece_held limit before now after refusal.WantOfMemory le h = tt
 no_piece_held limit before now after _ le h = absurd h
 
-pub no_piece_sent : (limit : ℕ) (before now after : Spring) (old new : Link) (e : OciDistributionError) → before.faults ≤ now.faults → NoPiece now after e → NotSent limit before after old new e
+pub no_piece_sent : (limit : ℕ) (before now after : SourceState) (old new : Link) (e : OciDistributionError) → before.faults ≤ now.faults → NoPiece now after e → NotSent limit before after old new e
 no_piece_sent limit before now after old new refusal.SourceFault le h = rose_on before.faults now.faults after.faults le h
 no_piece_sent limit before now after old new refusal.WantOfMemory le h = tt
 no_piece_sent limit before now after old new _ le h = absurd h
 
-pub took_more : (limit : ℕ) (before now after : Spring) (bytes piece : List ℕ) → Takes bytes before now → Takes piece now after → limit < length bytes + length piece → TookMore limit before after
+pub took_more : (limit : ℕ) (before now after : SourceState) (bytes piece : List ℕ) → Takes bytes before now → Takes piece now after → limit < length bytes + length piece → TookMore limit before after
 took_more limit before now after bytes piece first second lt = (bytes ++ piece, Consumes-then before.left now.left after.left bytes piece first second, omega (arith, lt, length-append bytes piece))
 
-pub step_sent : (limit : ℕ) (before after : Spring) (old new : Link) (e : OciDistributionError) → StepTold limit old new e → NotSent limit before after old new e
+pub step_sent : (limit : ℕ) (before after : SourceState) (old new : Link) (e : OciDistributionError) → StepTold limit old new e → NotSent limit before after old new e
 step_sent limit before after old new refusal.BodyTooLong h = inr h
 step_sent limit before after old new refusal.SourceFault h = absurd h
 step_sent limit before after old new refusal.PushNoDataError h = h
@@ -313,7 +313,7 @@ step_behind limit P old mid new (refusal.GenericError NoSize) told h = h
 step_behind limit P old mid new (refusal.GenericError SizeDiffers) told h = h
 step_behind limit P old mid new _ told h = tt
 
-pub sent_behind : (limit : ℕ) (before after : Spring) (P : List Exchange → Type 0) (old mid new : Link) (e : OciDistributionError) → Told P old mid → NotSent limit before after mid new e → NotSent limit before after old new e
+pub sent_behind : (limit : ℕ) (before after : SourceState) (P : List Exchange → Type 0) (old mid new : Link) (e : OciDistributionError) → Told P old mid → NotSent limit before after mid new e → NotSent limit before after old new e
 sent_behind limit before after P old mid new refusal.BodyTooLong told (inl h) = inl h
 sent_behind limit before after P old mid new refusal.BodyTooLong told (inr h) = inr (told_long limit P told h)
 sent_behind limit before after P old mid new refusal.SourceFault told h = h
@@ -322,17 +322,17 @@ sent_behind limit before after P old mid new (refusal.GenericError NoSize) told 
 sent_behind limit before after P old mid new (refusal.GenericError SizeDiffers) told h = h
 sent_behind limit before after P old mid new _ told h = tt
 
-pub sent_source : (limit : ℕ) (size : Option ℕ) (before after : Spring) (old new : Link) (e : OciDistributionError) → NotSent limit before after old new e → SourceCause limit size before after old new e
+pub sent_source : (limit : ℕ) (size : Option ℕ) (before after : SourceState) (old new : Link) (e : OciDistributionError) → NotSent limit before after old new e → SourceCause limit size before after old new e
 sent_source limit size before after old new refusal.PushNoDataError h = absurd h
 sent_source limit size before after old new (refusal.GenericError NoSize) h = absurd h
 sent_source limit size before after old new (refusal.GenericError SizeDiffers) h = absurd h
 sent_source limit size before after old new _ h = h
 
-pub held_source : (limit : ℕ) (size : Option ℕ) (before after : Spring) (old new : Link) (e : OciDistributionError) → NotHeld limit before after e → SourceCause limit size before after old new e
+pub held_source : (limit : ℕ) (size : Option ℕ) (before after : SourceState) (old new : Link) (e : OciDistributionError) → NotHeld limit before after e → SourceCause limit size before after old new e
 held_source limit size before after old new refusal.SourceFault h = h
 held_source limit size before after old new refusal.BodyTooLong h = inl h
 held_source limit size before after old new refusal.WantOfMemory h = tt
 held_source limit size before after old new _ h = absurd h
 
-pub step_source : (limit : ℕ) (size : Option ℕ) (before after : Spring) (old new : Link) (e : OciDistributionError) → StepTold limit old new e → SourceCause limit size before after old new e
+pub step_source : (limit : ℕ) (size : Option ℕ) (before after : SourceState) (old new : Link) (e : OciDistributionError) → StepTold limit old new e → SourceCause limit size before after old new e
 step_source limit size before after old new e h = sent_source limit size before after old new e (step_sent limit before after old new e h)

@@ -17,7 +17,7 @@ use Rattle.oci_auth.specs.Cache.{key_of, token_at}
 use Rattle.oci_auth.specs.Kept.{Key}
 use Rattle.oci_auth.specs.declared.auth.RegistryAuth.{RegistryAuth}
 use Rattle.oci_auth.specs.declared.auth.RegistryAuth.TheVariants as credentials
-use Rattle.oci_auth.specs.declared.memory.Memory.{Memory}
+use Rattle.oci_auth.specs.declared.auth_state.AuthState.{AuthState}
 use Rattle.oci_auth.specs.declared.token_type.RegistryOperation.{RegistryOperation}
 use Rattle.oci_auth.specs.declared.token_type.RegistryTokenType.{RegistryTokenType}
 use Rattle.oci_protocol.specs.Proto.{Reading, Reply, Headed, Answered, Failed, TooLong, SinkFailed, read_none, read_within, Proto, Done, Recall, Keep, bind, unless_refused, ◌>>=◌}
@@ -51,32 +51,32 @@ realm_bodiless s image a op service url request is = made_bodiless s _ (realm_ur
 
 -- ---- a walk over the rows
 
-abbrev Bodiless : Memory → List Exchange → Request → Type 0
+abbrev Bodiless : AuthState → List Exchange → Request → Type 0
 Bodiless k c request = request.body ≡ []
 
-abbrev Anything : Memory → List Exchange → Type 0
+abbrev Anything : AuthState → List Exchange → Type 0
 Anything k c = Unit {0}
 
-abbrev AnyAnswer : {A : Type 0} → Memory → List Exchange → A → Type 0
+abbrev AnyAnswer : {A : Type 0} → AuthState → List Exchange → A → Type 0
 AnyAnswer k c a = Unit {0}
 
 -- no request of it has a body
-record Quiet {A : Type 0} (p : Proto Memory A) : Type 0 where
-  safe : (k : Memory) (c : List Exchange) → Safe Bodiless Anything AnyAnswer k c p
+record Quiet {A : Type 0} (p : Proto AuthState A) : Type 0 where
+  safe : (k : AuthState) (c : List Exchange) → Safe Bodiless Anything AnyAnswer k c p
 
 quiet_done : {A : Type 0} (a : A) → Quiet (Done a)
 unfolding Safe
 quiet_done a = record { safe = λ k c. tt }
 
-quiet_recall : {A : Type 0} (next : Memory → Proto Memory A) → ((k : Memory) → Quiet (next k)) → Quiet (Recall next)
+quiet_recall : {A : Type 0} (next : AuthState → Proto AuthState A) → ((k : AuthState) → Quiet (next k)) → Quiet (Recall next)
 unfolding Safe
 quiet_recall next each = record { safe = λ k c. (each k).safe k c }
 
-quiet_keep : {A : Type 0} (kept : Memory) (rest : Proto Memory A) → Quiet rest → Quiet (Keep kept rest)
+quiet_keep : {A : Type 0} (kept : AuthState) (rest : Proto AuthState A) → Quiet rest → Quiet (Keep kept rest)
 unfolding Safe
 quiet_keep kept rest h = record { safe = λ k c. (tt, h.safe kept c) }
 
-quiet_bind : {A B : Type 0} (p : Proto Memory A) (f : A → Proto Memory B) → Quiet p → ((a : A) → Quiet (f a)) → Quiet (bind p f)
+quiet_bind : {A B : Type 0} (p : Proto AuthState A) (f : A → Proto AuthState B) → Quiet p → ((a : A) → Quiet (f a)) → Quiet (bind p f)
 quiet_bind p f first each = record { safe = λ k c. Safe-bind Bodiless Anything AnyAnswer AnyAnswer p f k c (first.safe k c) (λ k c a h. (each a).safe k c) }
 
 quiet_unless : {A B : Type 0} (f : A → Row B) → ((a : A) → Quiet (f a)) → (r : Result A OciDistributionError) → Quiet (unless_refused f r)
@@ -92,7 +92,7 @@ unfolding bind
 quiet_step (Ok a) f each = each a refl
 quiet_step (Err e) f each = quiet_done (Err e)
 
-quiet_once : {A : Type 0} (request : Request) (reading : AnswerHead → Reading) (next : Request → Reply → Proto Memory A) → request.body ≡ [] → ((reply : Reply) → Quiet (next request reply)) → Quiet (follow 0 request reading next)
+quiet_once : {A : Type 0} (request : Request) (reading : AnswerHead → Reading) (next : Request → Reply → Proto AuthState A) → request.body ≡ [] → ((reply : Reply) → Quiet (next request reply)) → Quiet (follow 0 request reading next)
 quiet_once request reading next none each = record { safe = λ k c. Safe-once Bodiless Anything AnyAnswer request reading next k c none (λ e before after reply replies. (each reply).safe k (c ++ e ∷ [])) }
 
 -- ---- the token step
@@ -173,7 +173,7 @@ no_bodies seen [] h = refl
 no_bodies seen (e ∷ c) h = ap (λ body. body ++ bodies c) h.0 ∙ no_bodies (seen ++ e ∷ []) c h.1
 
 -- those of a token step before a request
-pub token_bodiless : (s : Context) (image : Reference) (op : RegistryOperation) (url : Parts) {old new : Link} {k l : Memory} {r : Result (Option RegistryTokenType) OciDistributionError} → Meets is_memory (authorized s image op url) old new k l r → Told (λ c. bodies c ≡ []) old new
+pub token_bodiless : (s : Context) (image : Reference) (op : RegistryOperation) (url : Parts) {old new : Link} {k l : AuthState} {r : Result (Option RegistryTokenType) OciDistributionError} → Meets is_memory (authorized s image op url) old new k l r → Told (λ c. bodies c ≡ []) old new
 token_bodiless s image op url {k = k} met =
     let told = Meets-safe (λ c request. request.body ≡ []) Anything AnyAnswer ((quiet_authorized s image op url).safe k []) met in
     record { conversation = told.conversation; told = told.told; holds = no_bodies [] told.conversation told.holds }

@@ -19,10 +19,10 @@ pub record LastLong (limit : ℕ) (c : List Exchange) : Type 0 where
   pub long : limit < length answer.body
 
 -- the first list is a prefix of the second
-abbrev pub IsFront : List ℕ → List ℕ → Type 0
-IsFront first bytes = (rest : List ℕ) × (bytes ≡ first ++ rest)
+abbrev pub IsPrefix : List ℕ → List ℕ → Type 0
+IsPrefix first bytes = (rest : List ℕ) × (bytes ≡ first ++ rest)
 
 -- If exchanges are exposed, their requests contained these bytes, or a prefix of them if the call was refused.
 abbrev pub Sends : {A E : Type 0} → List ℕ → Link → Link → Result A E → Type 0
 Sends bytes old new (Ok a) = Told (λ c. bodies c ≡ bytes) old new
-Sends bytes old new (Err e) = Told (λ c. IsFront (bodies c) bytes) old new
+Sends bytes old new (Err e) = Told (λ c. IsPrefix (bodies c) bytes) old new

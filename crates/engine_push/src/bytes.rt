@@ -9,14 +9,14 @@ use crate::content::Content;
 use crate::uploads::{chunks_sent, upload_begun, upload_ended};
 use engine_terms::{Call, OciDistributionError};
 use json_values::{Blob, Text};
-use oci_auth::Memory;
+use oci_auth::AuthState;
 use oci_transport::Transport;
 use std::alloc::Global;
 
 fn push_chunked<T: Transport>(
     alloc: Global,
     transport: &mut T,
-    memory: &mut Memory,
+    memory: &mut AuthState,
     call: &Call,
     content: &[u8],
     digest: &str,
@@ -35,7 +35,7 @@ fn push_chunked<T: Transport>(
 fn push_whole<T: Transport>(
     alloc: Global,
     transport: &mut T,
-    memory: &mut Memory,
+    memory: &mut AuthState,
     call: &Call,
     content: &[u8],
     digest: &str,
@@ -65,7 +65,7 @@ fn is_violation(error: &OciDistributionError) -> bool
 pub fn push_blob<T: Transport>(
     alloc: Global,
     transport: &mut T,
-    memory: &mut Memory,
+    memory: &mut AuthState,
     call: &Call,
     content: &[u8],
     digest: &str,

@@ -1,6 +1,6 @@
 // What a request of a push contains.
 ghost use Rattle.std.specs.Prelude.{◌≡◌, ◌+◌, ◌<◌, ◌^◌, length, IfOk};
-ghost use Rattle.engine_terms.specs.Error.{Says};
+ghost use Rattle.engine_terms.specs.Error.{Matches};
 ghost use Rattle.engine_push.specs.Contents.{IsWithin, bytes_of, range_text, with_length, with_type, with_fields, with_content};
 
 use engine_requests::with_header;
@@ -33,7 +33,7 @@ fn with_length(
     headers: Headers,
     bytes: &[u8],
 ) -> Result<Headers, OciDistributionError>
-    ensures { Says result (with_length bytes.now headers) }
+    ensures { Matches result (with_length bytes.now headers) }
 {
     let digits = write_decimal(alloc, bytes.len() as u64)?;
     let sized = with_header(headers, "content-length", digits.as_str())?;
@@ -41,7 +41,7 @@ fn with_length(
 }
 
 fn with_type(headers: Headers) -> Result<Headers, OciDistributionError>
-    ensures { Says result (with_type headers) }
+    ensures { Matches result (with_type headers) }
 {
     with_header(headers, "content-type", "application/octet-stream")
 }
@@ -52,7 +52,7 @@ fn with_fields(
     content: &Content,
 ) -> Result<Headers, OciDistributionError>
     requires { IsWithin content.now }
-    ensures { Says result (with_fields content.now headers) }
+    ensures { Matches result (with_fields content.now headers) }
 {
     match content {
         Content::Nothing => {
@@ -92,7 +92,7 @@ pub(crate) fn with_content(
     content: Content,
 ) -> Result<Request, OciDistributionError>
     requires { IsWithin content }
-    ensures { Says result (with_content content request) }
+    ensures { Matches result (with_content content request) }
 {
     let Request {
         method,

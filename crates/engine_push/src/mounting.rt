@@ -10,7 +10,7 @@ use crate::uploads::sent;
 use engine_requests::uploads_url;
 use engine_steps::Target;
 use engine_terms::{Call, OciDistributionError};
-use oci_auth::Memory;
+use oci_auth::AuthState;
 use oci_names::Reference;
 use oci_transport::{Method, Transport};
 use std::alloc::{AllocError, Global};
@@ -30,7 +30,7 @@ fn mount_url(mut url: Url, source: &Reference, digest: &str) -> Result<Url, Allo
 pub fn mount_blob<T: Transport>(
     alloc: Global,
     transport: &mut T,
-    memory: &mut Memory,
+    memory: &mut AuthState,
     call: &Call,
     source: &Reference,
     digest: &str,

@@ -1,21 +1,21 @@
 // Takes the pieces of a source, in its order.
 ghost use Rattle.std.specs.Prelude.{◌≡◌, ◌≤◌, ◌++◌, [], ℕ, List, IfOk, IfErr, is_some};
 ghost use Rattle.std.specs.Io.KnownBytes.{IsAtEnd};
-ghost use Rattle.json_values.specs.Counts.{Rose};
+ghost use Rattle.json_values.specs.Counts.{Increased};
 ghost use Rattle.pull_edge.specs.Source.{Takes};
-ghost use Rattle.oci_auth.specs.declared.memory.Memory.{Memory};
+ghost use Rattle.oci_auth.specs.declared.auth_state.AuthState.{AuthState};
 ghost use Rattle.oci_transport.specs.Link.{Link};
 ghost use Rattle.oci_protocol.specs.Runs.{Meets};
 ghost use Rattle.engine_terms.specs.Contexts.{context_of};
 ghost use Rattle.engine_terms.specs.Error.{is_memory};
 ghost use Rattle.engine_push.specs.Uploads.{next_piece, all_sent, all_read};
-ghost use Rattle.engine_push.specs.Sources.{Pushes, Gives, TookAll, NoPiece, NotHeld, NotSent};
+ghost use Rattle.engine_push.specs.Sources.{Pushes, AllConsumed, TookAll, NoPiece, NotHeld, NotSent};
 ghost use Rattle.engine_push.specs.Sources.{Hashed, IsUpload, sent_in};
 
 use crate::uploads::chunks_sent;
 use engine_terms::{Call, OciDistributionError};
 use json_values::{Blob, Copied, Text};
-use oci_auth::Memory;
+use oci_auth::AuthState;
 use oci_digests::Digester;
 use oci_pieces::PieceSource;
 use oci_transport::{LinkError, Transport};
@@ -31,8 +31,8 @@ pub struct Upload {
 
 // Takes the next piece of the source.
 fn next_piece<P: PieceSource>(alloc: Global, pieces: &mut P) -> Result<Blob, OciDistributionError>
-    ensures run { (link : Link) (k : Memory) → Meets is_memory next_piece link link k k result }
-    ensures front { IfOk result (λ piece. Takes piece (P.state pieces.old) (P.state pieces.new)) }
+    ensures run { (link : Link) (k : AuthState) → Meets is_memory next_piece link link k k result }
+    ensures prefix { IfOk result (λ piece. Takes piece (P.state pieces.old) (P.state pieces.new)) }
     ensures end { IfOk result (λ piece. piece ≡ [] → IsAtEnd (P.state pieces.new).left) }
     ensures refused { IfErr result (NoPiece (P.state pieces.old) (P.state pieces.new)) }
     ensures count { (P.state pieces.old).faults ≤ (P.state pieces.new).faults }
@@ -57,7 +57,7 @@ fn hash(digester: &mut Option<Digester>, piece: &[u8])
 pub(crate) fn pieces_sent<T: Transport, P: PieceSource>(
     alloc: Global,
     transport: &mut T,
-    memory: &mut Memory,
+    memory: &mut AuthState,
     call: &Call,
     pieces: &mut P,
     location: Text,
@@ -102,8 +102,8 @@ pub(crate) fn pieces_read<P: PieceSource>(
     pieces: &mut P,
     limit: u64,
 ) -> Result<Blob, OciDistributionError>
-    ensures run { (link : Link) (k : Memory) → Meets is_memory (all_read limit) link link k k result }
-    ensures gives { Gives (P.state pieces.old) (P.state pieces.new) result }
+    ensures run { (link : Link) (k : AuthState) → Meets is_memory (all_read limit) link link k k result }
+    ensures gives { AllConsumed (P.state pieces.old) (P.state pieces.new) result }
     ensures refused { IfErr result (NotHeld limit (P.state pieces.old) (P.state pieces.new)) }
 {
     let mut held = Blob::empty(alloc);

@@ -12,7 +12,7 @@ use crate::pieces::{Upload, pieces_read, pieces_sent};
 use crate::uploads::{upload_begun, upload_ended};
 use engine_terms::{Call, GenericCause, OciDistributionError};
 use json_values::{Copied, Text, copied};
-use oci_auth::Memory;
+use oci_auth::AuthState;
 use oci_digests::{Algorithm, Digester};
 use oci_pieces::PieceSource;
 use oci_transport::Transport;
@@ -44,7 +44,7 @@ impl Copied for PushBlobStreamChunkedResponse {
 fn stream_whole<T: Transport, P: PieceSource>(
     alloc: Global,
     transport: &mut T,
-    memory: &mut Memory,
+    memory: &mut AuthState,
     call: &Call,
     pieces: &mut P,
     digest: &str,
@@ -74,7 +74,7 @@ fn stream_whole<T: Transport, P: PieceSource>(
 fn stream_chunked<T: Transport, P: PieceSource>(
     alloc: Global,
     transport: &mut T,
-    memory: &mut Memory,
+    memory: &mut AuthState,
     call: &Call,
     pieces: &mut P,
     digest: &str,
@@ -101,7 +101,7 @@ fn stream_chunked<T: Transport, P: PieceSource>(
 pub fn push_blob_stream<T: Transport, P: PieceSource>(
     alloc: Global,
     transport: &mut T,
-    memory: &mut Memory,
+    memory: &mut AuthState,
     call: &Call,
     pieces: &mut P,
     digest: &str,
@@ -126,7 +126,7 @@ pub fn push_blob_stream<T: Transport, P: PieceSource>(
 pub fn push_blob_stream_chunked<T: Transport, P: PieceSource>(
     alloc: Global,
     transport: &mut T,
-    memory: &mut Memory,
+    memory: &mut AuthState,
     call: &Call,
     pieces: &mut P,
 ) -> Result<PushBlobStreamChunkedResponse, OciDistributionError>

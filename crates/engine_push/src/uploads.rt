@@ -1,6 +1,6 @@
 // Sends the requests of an upload.
 ghost use Rattle.std.specs.Prelude.{◌≡◌, ◌+◌, ◌<◌, ◌^◌, [], length};
-ghost use Rattle.oci_auth.specs.declared.memory.Memory.{Memory};
+ghost use Rattle.oci_auth.specs.declared.auth_state.AuthState.{AuthState};
 ghost use Rattle.oci_protocol.specs.Runs.{Meets};
 ghost use Rattle.engine_terms.specs.Contexts.{context_of};
 ghost use Rattle.engine_terms.specs.Error.{is_memory};
@@ -16,7 +16,7 @@ use engine_requests::{read_url, request_of, uploads_url, with_pair};
 use engine_steps::{Target, authorized};
 use engine_terms::{Call, OciDistributionError};
 use json_values::{Blob, Text};
-use oci_auth::{Memory, RegistryOperation};
+use oci_auth::{AuthState, RegistryOperation};
 use oci_protocol::{Reached, reach};
 use oci_transport::{BodyError, LinkError, Method, Request, Transport, read_body};
 use std::alloc::Global;
@@ -33,7 +33,7 @@ fn location_after<T: Transport>(
     expected: u16,
     request: &Request,
 ) -> Result<Text, OciDistributionError>
-    ensures { (k : Memory) → Meets is_memory
+    ensures { (k : AuthState) → Meets is_memory
         (location_after call.now.settings.now call.now.image.now expected request.now)
         (T.state transport.old) (T.state transport.new) k k result }
 {
@@ -64,7 +64,7 @@ fn location_after<T: Transport>(
 pub(crate) fn sent<T: Transport>(
     alloc: Global,
     transport: &mut T,
-    memory: &mut Memory,
+    memory: &mut AuthState,
     call: &Call,
     target: &Target,
     content: Content,
@@ -96,7 +96,7 @@ pub(crate) fn sent<T: Transport>(
 pub(crate) fn upload_begun<T: Transport>(
     alloc: Global,
     transport: &mut T,
-    memory: &mut Memory,
+    memory: &mut AuthState,
     call: &Call,
 ) -> Result<Text, OciDistributionError>
     ensures run { Meets is_memory (upload_begun (context_of call.now) call.now.image.now)
@@ -124,7 +124,7 @@ pub(crate) fn upload_begun<T: Transport>(
 fn chunk_sent<T: Transport>(
     alloc: Global,
     transport: &mut T,
-    memory: &mut Memory,
+    memory: &mut AuthState,
     call: &Call,
     location: Text,
     start: u64,
@@ -150,7 +150,7 @@ fn chunk_sent<T: Transport>(
 pub(crate) fn upload_ended<T: Transport>(
     alloc: Global,
     transport: &mut T,
-    memory: &mut Memory,
+    memory: &mut AuthState,
     call: &Call,
     digest: &str,
     location: Text,
@@ -176,7 +176,7 @@ pub(crate) fn upload_ended<T: Transport>(
 pub(crate) fn chunks_sent<T: Transport>(
     alloc: Global,
     transport: &mut T,
-    memory: &mut Memory,
+    memory: &mut AuthState,
     call: &Call,
     location: Text,
     start: u64,

@@ -1,7 +1,7 @@
 // Builds requests without a body.
 ghost use Rattle.std.specs.Prelude.{◌≡◌, ◌++◌, flat_map, IfOk, OnOk, IsTrue, option_copied, Ok};
 ghost use Rattle.http_header.specs.FieldName.{is_header_name};
-ghost use Rattle.engine_terms.specs.Error.{Says};
+ghost use Rattle.engine_terms.specs.Error.{Matches};
 ghost use Rattle.engine_requests.specs.Requests.{behind, listed, with_header, with_accept};
 ghost use Rattle.engine_requests.specs.Requests.{with_token, headers_of, request_of};
 
@@ -49,7 +49,7 @@ pub fn with_header(
     value: &str,
 ) -> Result<Headers, OciDistributionError>
     requires { IsTrue (is_header_name name.now) }
-    ensures { Says result (with_header headers name.now value.now) }
+    ensures { Matches result (with_header headers name.now value.now) }
 {
     match headers.add(name, value.as_bytes()) {
         Ok(()) => Ok(headers),
@@ -65,7 +65,7 @@ pub fn with_header(
 }
 
 fn with_accept(headers: Headers, types: Option<&str>) -> Result<Headers, OciDistributionError>
-    ensures { Says result (with_accept (option_copied types.entry) headers) }
+    ensures { Matches result (with_accept (option_copied types.entry) headers) }
 {
     match types {
         Some(types) => with_header(headers, "accept", types),
@@ -78,7 +78,7 @@ fn with_token(
     headers: Headers,
     token: &Option<RegistryTokenType>,
 ) -> Result<Headers, OciDistributionError>
-    ensures { Says result (with_token token.now headers) }
+    ensures { Matches result (with_token token.now headers) }
 {
     match token {
         Some(token) => {
@@ -96,7 +96,7 @@ fn headers_of(
     types: Option<&str>,
     token: &Option<RegistryTokenType>,
 ) -> Result<Headers, OciDistributionError>
-    ensures { Says result (headers_of settings.now (option_copied types.entry) token.now) }
+    ensures { Matches result (headers_of settings.now (option_copied types.entry) token.now) }
 {
     let headers = with_header(
         Headers::new(alloc),
@@ -118,7 +118,7 @@ pub fn request_of(
     types: Option<&str>,
     token: &Option<RegistryTokenType>,
 ) -> Result<Request, OciDistributionError>
-    ensures { Says result (request_of settings.now method url.now (option_copied types.entry) token.now) }
+    ensures { Matches result (request_of settings.now method url.now (option_copied types.entry) token.now) }
 {
     let headers = headers_of(alloc, settings, types, token)?;
     let url = Text::new(alloc, url.as_str())?;

@@ -1,6 +1,6 @@
 // Where a blob may be: at the registry by its digest, and at the URLs that its descriptor lists.
 ghost use Rattle.std.specs.Prelude.{◌≡◌, IfOk};
-ghost use Rattle.engine_terms.specs.Error.{Says};
+ghost use Rattle.engine_terms.specs.Error.{Matches};
 ghost use Rattle.engine_requests.specs.Sources.{by_scheme, place_of, asked_at};
 
 use crate::requests::{MANIFEST_TYPES, request_of};
@@ -116,7 +116,7 @@ pub fn asked_at(
     settings: &Settings,
     place: Place,
 ) -> Result<Request, OciDistributionError>
-    ensures { Says result (asked_at settings.now place) }
+    ensures { Matches result (asked_at settings.now place) }
 {
     match place {
         Place::Web(url) => {

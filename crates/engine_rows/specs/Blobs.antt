@@ -1,13 +1,13 @@
 -- One request for a blob, and which of its bytes a sink holds.
 use Rattle.std.specs.Prelude.{◌≡◌, ◌≤◌, ◌⊎◌, ℕ, true, List, [], ◌∷◌, ◌++◌, Some, Result, Ok, Err}
-use Rattle.json_values.specs.Counts.{Rose}
-use Rattle.json_values.specs.Tray.{Tray, Adds}
+use Rattle.json_values.specs.Counts.{Increased}
+use Rattle.json_values.specs.SinkState.{SinkState, Adds}
 use Rattle.oci_transport.specs.Link.{Link}
 use Rattle.oci_transport.specs.declared.message.Request.{Request}
 use Rattle.oci_transport.specs.declared.message.Answer.{Answer}
 use Rattle.oci_transport.specs.declared.message.AnswerHead.{AnswerHead}
 use Rattle.oci_transport.specs.declared.message.Exchange.{Exchange}
-use Rattle.oci_auth.specs.declared.memory.Memory.{Memory}
+use Rattle.oci_auth.specs.declared.auth_state.AuthState.{AuthState}
 use Rattle.oci_protocol.specs.Proto.{Reading, Unread, Within, Piped, Reply, Headed, Answered, Failed, TooLong}
 use Rattle.oci_protocol.specs.Proto.{SinkFailed, Done}
 use Rattle.oci_protocol.specs.Follow.{follow}
@@ -67,7 +67,7 @@ attempt to limit digest request = follow 10 request (blob_reading to limit diges
 -- ---- what a sink took
 
 -- a prefix of the body of the last response, whose status is 2xx
-pub record IsFrontOfLast (bytes : List ℕ) (c : List Exchange) : Type 0 where
+pub record IsPrefixOfLast (bytes : List ℕ) (c : List Exchange) : Type 0 where
   pub before : List Exchange
   pub last : Exchange
   pub split : c ≡ before ++ last ∷ []
@@ -78,8 +78,8 @@ pub record IsFrontOfLast (bytes : List ℕ) (c : List Exchange) : Type 0 where
   pub body : answer.body ≡ bytes ++ left
 
 -- or nothing
-abbrev pub IsFront : List ℕ → List Exchange → Type 0
-IsFront bytes c = (bytes ≡ []) ⊎ IsFrontOfLast bytes c
+abbrev pub IsPrefix : List ℕ → List Exchange → Type 0
+IsPrefix bytes c = (bytes ≡ []) ⊎ IsPrefixOfLast bytes c
 
 -- the result of the protocol, from that of the call and the bytes that were written
 abbrev pub filled : List ℕ → Result Unit OciDistributionError → Result (List ℕ) OciDistributionError
@@ -88,11 +88,11 @@ filled body (Err e) = Err e
 
 -- A call that performed this protocol and wrote its bytes: those that the protocol returns or, after a refusal, a
 -- prefix of the last response's body.
-pub record Spills (p : Row (List ℕ)) (old new : Link) (k l : Memory) (before after : Tray)
+pub record MeetsIntoSink (p : Row (List ℕ)) (old new : Link) (k l : AuthState) (before after : SinkState)
     (r : Result Unit OciDistributionError) : Type 0 where
   pub body : List ℕ
   pub met : Meets is_memory p old new k l (filled body r)
   pub put : Adds body before after
-  pub front : Told (IsFront body) old new
+  pub front : Told (IsPrefix body) old new
   pub count : before.faults ≤ after.faults
-  pub fault : r ≡ Err refusal.SinkFault → Rose before.faults after.faults
+  pub fault : r ≡ Err refusal.SinkFault → Increased before.faults after.faults

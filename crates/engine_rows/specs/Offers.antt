@@ -2,11 +2,11 @@
 -- lists, in order, while the status is 4xx or 5xx (OCI image specification, descriptor.md, `urls`).
 use Rattle.std.specs.Prelude.{◌≡◌, ◌⊎◌, ℕ, Bool, true, false, List, [], ◌∷◌, Option, Some, None, Result, Ok, Err}
 use Rattle.std.specs.Prelude.{if◌then◌else◌}
-use Rattle.json_values.specs.Tray.{Tray}
+use Rattle.json_values.specs.SinkState.{SinkState}
 use Rattle.oci_transport.specs.Link.{Link}
 use Rattle.oci_transport.specs.declared.message.Request.{Request}
 use Rattle.oci_transport.specs.declared.message.AnswerHead.{AnswerHead}
-use Rattle.oci_auth.specs.declared.memory.Memory.{Memory}
+use Rattle.oci_auth.specs.declared.auth_state.AuthState.{AuthState}
 use Rattle.oci_protocol.specs.Proto.{Reading, Unread, Reply, Headed, Done, ◌>>=◌}
 use Rattle.oci_protocol.specs.Follow.{follow}
 use Rattle.oci_protocol.specs.Runs.{Meets}
@@ -16,7 +16,7 @@ use Rattle.engine_requests.specs.Sources.{asked_at}
 use Rattle.engine_terms.specs.declared.settings.Settings.{Settings}
 use Rattle.engine_terms.specs.declared.error.OciDistributionError.{OciDistributionError}
 use Rattle.engine_requests.specs.declared.sources.Place.{Place}
-use Rattle.engine_rows.specs.Blobs.{Destination, blob_reading, blob_reply, attempt, Spills}
+use Rattle.engine_rows.specs.Blobs.{Destination, blob_reading, blob_reply, attempt, MeetsIntoSink}
 use Rattle.engine_rows.specs.Rows.{Row}
 
 -- the body of a response with a 4xx or 5xx status is not read
@@ -47,18 +47,19 @@ Takes to limit digest request head p = (p ≡ attempt to limit digest request)
 -- ---- the result of an offer
 
 -- The row ended with the bytes or a refusal, or its response was skipped: then whatever comes next is met by the row.
-abbrev pub Offered : Row (List ℕ) → Row (List ℕ) → Link → Link → Memory → Result (Option (List ℕ)) OciDistributionError
+abbrev pub Offered : Row (List ℕ) → Row (List ℕ) → Link → Link → AuthState
+    → Result (Option (List ℕ)) OciDistributionError
     → Type 0
 Offered next p old new k (Ok (Some bytes)) = Meets is_memory p old new k k (Ok bytes)
-Offered next p old new k (Ok None) = (end : Link) (l : Memory) (r : Result (List ℕ) OciDistributionError)
+Offered next p old new k (Ok None) = (end : Link) (l : AuthState) (r : Result (List ℕ) OciDistributionError)
     → Meets is_memory next new end k l r → Meets is_memory p old end k l r
 Offered next p old new k (Err e) = Meets is_memory p old new k k (Err e)
 
 -- the same for a sink, which holds the bytes, or nothing of a response that was skipped
-abbrev pub OfferedInto : Row (List ℕ) → Row (List ℕ) → Link → Link → Memory → Tray → Tray
+abbrev pub OfferedInto : Row (List ℕ) → Row (List ℕ) → Link → Link → AuthState → SinkState → SinkState
     → Result Bool OciDistributionError → Type 0
-OfferedInto next p old new k before after (Ok true) = Spills p old new k k before after (Ok tt)
-OfferedInto next p old new k before after (Ok false) = (end : Link) (l : Memory) (later : Tray)
+OfferedInto next p old new k before after (Ok true) = MeetsIntoSink p old new k k before after (Ok tt)
+OfferedInto next p old new k before after (Ok false) = (end : Link) (l : AuthState) (later : SinkState)
     (r : Result Unit OciDistributionError)
-    → Spills next new end k l after later r → Spills p old end k l before later r
-OfferedInto next p old new k before after (Err e) = Spills p old new k k before after (Err e)
+    → MeetsIntoSink next new end k l after later r → MeetsIntoSink p old end k l before later r
+OfferedInto next p old new k before after (Err e) = MeetsIntoSink p old new k k before after (Err e)

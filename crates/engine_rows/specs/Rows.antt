@@ -12,8 +12,8 @@ use Rattle.oci_transport.specs.declared.message.Method.TheVariants.{Get}
 use Rattle.oci_names.specs.declared.reference.Reference.{Reference}
 use Rattle.oci_names.specs.Reference.{resolved_registry}
 use Rattle.oci_auth.specs.declared.auth.RegistryAuth.{RegistryAuth}
-use Rattle.oci_auth.specs.declared.memory.Memory.{Memory}
-use Rattle.oci_auth.specs.Memory.{stored}
+use Rattle.oci_auth.specs.declared.auth_state.AuthState.{AuthState}
+use Rattle.oci_auth.specs.AuthState.{stored}
 use Rattle.oci_auth.specs.Cache.{key_of, token_at, with_token}
 use Rattle.oci_auth.specs.Auth.{own_token}
 use Rattle.oci_auth.specs.Kept.{Key}
@@ -41,7 +41,7 @@ use Rattle.engine_rows.specs.declared.named.NamedAnswer.{NamedAnswer}
 use Rattle.engine_rows.specs.declared.named.NamedAnswer.TheVariants.{ByHeader, Unnamed}
 
 abbrev pub Row : Type 0 → Type 0
-Row A = Proto Memory (Result A OciDistributionError)
+Row A = Proto AuthState (Result A OciDistributionError)
 
 -- ---- ways to send a request
 
@@ -98,10 +98,10 @@ named_after times request limit = follow times request (named_reading limit) nam
 
 -- ---- the client state
 
-abbrev pub recalled : Row Memory
+abbrev pub recalled : Row AuthState
 recalled = Recall (λ k. Done (Ok k))
 
-abbrev pub keep : Memory → Row Unit
+abbrev pub keep : AuthState → Row Unit
 keep k = Keep k (Done (Ok tt))
 
 -- credentials are stored for the registry, unless some are already
@@ -142,7 +142,7 @@ token_step s image (auth.Basic user password) op = registry_asked s image (auth.
 token_step s image auth.Anonymous op = registry_asked s image auth.Anonymous op
 
 -- the client state after this token was obtained
-abbrev pub with_kept : Memory → Key → RegistryTokenType → ℕ → Memory
+abbrev pub with_kept : AuthState → Key → RegistryTokenType → ℕ → AuthState
 with_kept k key token moment = record k { tokens = with_token k.tokens key token moment }
 
 -- a refusal other than out of memory gives no token

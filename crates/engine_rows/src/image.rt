@@ -1,6 +1,6 @@
 // The parts of an image that are computed from its documents and blobs.
 ghost use Rattle.std.specs.Prelude.{◌≡◌, IfOk};
-ghost use Rattle.engine_terms.specs.Error.{Says};
+ghost use Rattle.engine_terms.specs.Error.{Matches};
 ghost use Rattle.engine_rows.specs.Image.{image_manifest, is_accepted, all_accepted};
 ghost use Rattle.engine_rows.specs.Image.{layers_accepted, layer_of, config_of};
 
@@ -39,7 +39,7 @@ impl Copied for ImageData {
 
 /// Returns the manifest of an image; an index is refused.
 pub fn image_manifest(document: OciManifest) -> Result<OciImageManifest, OciDistributionError>
-    ensures { Says result (image_manifest document) }
+    ensures { Matches result (image_manifest document) }
 {
     match document {
         OciManifest::Image(manifest) => Ok(manifest),
@@ -66,7 +66,7 @@ pub fn layers_accepted(
     accepted: &[Text],
     layers: &[OciDescriptor],
 ) -> Result<(), OciDistributionError>
-    ensures { Says result (layers_accepted accepted.now layers.now) }
+    ensures { Matches result (layers_accepted accepted.now layers.now) }
 {
     if layers.is_empty() {
         return Err(OciDistributionError::PullNoLayersError);
@@ -80,7 +80,7 @@ fn all_accepted(
     accepted: &[Text],
     layers: &[OciDescriptor],
 ) -> Result<(), OciDistributionError>
-    ensures { Says result (all_accepted accepted.now layers.now) }
+    ensures { Matches result (all_accepted accepted.now layers.now) }
 {
     for layer in layers {
         if !is_accepted(accepted, layer.media_type.as_str()) {

@@ -10,7 +10,7 @@ use Rattle.oci_transport.specs.declared.message.AnswerHead.{AnswerHead}
 use Rattle.engine_terms.specs.declared.error.OciDistributionError.TheVariants as refusal
 use Rattle.engine_requests.specs.Tokens.{decoded}
 use Rattle.engine_rows.specs.Rows.{shown_text}
-use Rattle.engine_steps.specs.Untaken.{IfNoBearer, LastUntaken, Untaken}
+use Rattle.engine_steps.specs.BodyUnread.{IfNoBearer, LastBodyUnread, BodyUnread}
 
 by_body : (body : List ℕ) (o : Option RegistryToken) (token : Option RegistryTokenType) → decoded body o ≡ Ok token → IfNoBearer ⊥ token
 by_body body (Some t) token h = let same : Some (Bearer t) ≡ token = cc h in subst (λ o. IfNoBearer ⊥ o) same tt
@@ -37,7 +37,7 @@ pub no_text : {P : Type 0} (token : RegistryTokenType) (text : Option (List ℕ)
 no_text (Basic user password) text is h none = h
 no_text (Bearer token) text is h none = absurd (cc (sym is ∙ none))
 
-pub left_untaken : {old mid : Link} (new : Link) (head : AnswerHead) (token : Option RegistryTokenType) → Untaken head old mid → IfNoBearer (new ≡ mid) token → IfNoBearer (LastUntaken old new) token
-left_untaken {old} new head None h same = (head, subst (λ link. Untaken head old link) (sym same) h)
-left_untaken {old} new head (Some (Basic user password)) h same = (head, subst (λ link. Untaken head old link) (sym same) h)
+pub left_untaken : {old mid : Link} (new : Link) (head : AnswerHead) (token : Option RegistryTokenType) → BodyUnread head old mid → IfNoBearer (new ≡ mid) token → IfNoBearer (LastBodyUnread old new) token
+left_untaken {old} new head None h same = (head, subst (λ link. BodyUnread head old link) (sym same) h)
+left_untaken {old} new head (Some (Basic user password)) h same = (head, subst (λ link. BodyUnread head old link) (sym same) h)
 left_untaken new head (Some (Bearer token)) h same = tt

@@ -1,1 +1,1 @@
-pub mod Untaken
+pub mod BodyUnread

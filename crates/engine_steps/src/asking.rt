@@ -1,11 +1,11 @@
 // Ways to send a request, as steps of a row.
 ghost use Rattle.std.specs.Prelude.{◌≡◌, IfOk};
-ghost use Rattle.oci_auth.specs.declared.memory.Memory.{Memory};
+ghost use Rattle.oci_auth.specs.declared.auth_state.AuthState.{AuthState};
 ghost use Rattle.oci_transport.specs.Link.{answer_of};
 ghost use Rattle.oci_protocol.specs.Runs.{Meets};
 ghost use Rattle.engine_terms.specs.Error.{is_memory};
 ghost use Rattle.engine_rows.specs.Rows.{whole, head_after, named_after};
-ghost use Rattle.engine_steps.specs.Untaken.{Untaken, UntakenUnnamed};
+ghost use Rattle.engine_steps.specs.BodyUnread.{BodyUnread, BodyUnreadUnnamed};
 
 use engine_answers::{Got, header_digest};
 use engine_rows::NamedAnswer;
@@ -41,7 +41,7 @@ pub fn whole<T: Transport>(
     request: &Request,
     limit: u64,
 ) -> Result<Got, OciDistributionError>
-    ensures { (k : Memory) → Meets is_memory (whole times request.now limit)
+    ensures { (k : AuthState) → Meets is_memory (whole times request.now limit)
         (T.state transport.old) (T.state transport.new) k k result }
 {
     let reached = match reach(alloc, transport, times, request) {
@@ -65,9 +65,9 @@ pub(crate) fn head_after<T: Transport>(
     times: u64,
     request: &Request,
 ) -> Result<AnswerHead, OciDistributionError>
-    ensures run { (k : Memory) → Meets is_memory (head_after times request.now)
+    ensures run { (k : AuthState) → Meets is_memory (head_after times request.now)
         (T.state transport.old) (T.state transport.new) k k result }
-    ensures untaken { IfOk result (λ head. Untaken head (T.state transport.old) (T.state transport.new)) }
+    ensures body_unread { IfOk result (λ head. BodyUnread head (T.state transport.old) (T.state transport.new)) }
 {
     match reach(alloc, transport, times, request) {
         Ok(reached) => Ok(reached.head),
@@ -85,9 +85,9 @@ pub fn named_after<T: Transport>(
     request: &Request,
     limit: u64,
 ) -> Result<NamedAnswer, OciDistributionError>
-    ensures run { (k : Memory) → Meets is_memory (named_after times request.now limit)
+    ensures run { (k : AuthState) → Meets is_memory (named_after times request.now limit)
         (T.state transport.old) (T.state transport.new) k k result }
-    ensures untaken { IfOk result (λ named. UntakenUnnamed named
+    ensures body_unread { IfOk result (λ named. BodyUnreadUnnamed named
         (T.state transport.old) (T.state transport.new)) }
 {
     let reached = match reach(alloc, transport, times, request) {

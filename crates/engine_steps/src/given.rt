@@ -5,12 +5,12 @@ ghost use Rattle.oci_protocol.specs.Runs.{Meets};
 ghost use Rattle.engine_terms.specs.Contexts.{context_of};
 ghost use Rattle.engine_terms.specs.Error.{is_memory};
 ghost use Rattle.engine_rows.specs.Rows.{shown_text, kept_text, token_given};
-ghost use Rattle.engine_steps.specs.Untaken.{LastUntaken};
+ghost use Rattle.engine_steps.specs.BodyUnread.{LastBodyUnread};
 
 use crate::tokens::token_step;
 use engine_terms::{Call, OciDistributionError};
 use json_values::Text;
-use oci_auth::{Memory, RegistryAuth, RegistryOperation, RegistryTokenType, store};
+use oci_auth::{AuthState, RegistryAuth, RegistryOperation, RegistryTokenType, store};
 use oci_transport::Transport;
 use std::alloc::{AllocError, Global};
 
@@ -31,15 +31,15 @@ fn shown_text(alloc: Global, token: &RegistryTokenType) -> Result<Option<Text>, 
 pub fn token_given<T: Transport>(
     alloc: Global,
     transport: &mut T,
-    memory: &mut Memory,
+    memory: &mut AuthState,
     call: &Call,
     auth: &RegistryAuth,
     op: RegistryOperation,
 ) -> Result<Option<Text>, OciDistributionError>
     ensures run { Meets is_memory (token_given (context_of call.now) call.now.image.now auth.now op)
         (T.state transport.old) (T.state transport.new) memory.old memory.new result }
-    ensures untaken { IfOk result
-        (λ text. text ≡ None → LastUntaken (T.state transport.old) (T.state transport.new)) }
+    ensures body_unread { IfOk result
+        (λ text. text ≡ None → LastBodyUnread (T.state transport.old) (T.state transport.new)) }
 {
     store(alloc, memory, call.image.resolve_registry(), auth)?;
     let Some(token) = token_step(alloc, transport, call, auth, op)? else {

@@ -1,14 +1,14 @@
 // The token step, and the calls that make it.
 ghost use Rattle.std.specs.Prelude.{◌≡◌, IfOk};
 ghost use Rattle.url.specs.Parts.{serialize};
-ghost use Rattle.oci_auth.specs.declared.memory.Memory.{Memory};
+ghost use Rattle.oci_auth.specs.declared.auth_state.AuthState.{AuthState};
 ghost use Rattle.oci_transport.specs.Urls.{request_url};
 ghost use Rattle.oci_protocol.specs.Runs.{Meets};
 ghost use Rattle.engine_terms.specs.Contexts.{context_of};
 ghost use Rattle.engine_terms.specs.Error.{is_memory};
 ghost use Rattle.engine_rows.specs.Rows.{realm_asked, fetched, registry_asked, token_step, passed_over};
 ghost use Rattle.engine_rows.specs.Rows.{token_asked, token_for, authorized, goes_to, prepared};
-ghost use Rattle.engine_steps.specs.Untaken.{IfNoBearer, LastUntaken};
+ghost use Rattle.engine_steps.specs.BodyUnread.{IfNoBearer, LastBodyUnread};
 
 use crate::asking::{head_after, whole};
 use engine_requests::{
@@ -18,7 +18,7 @@ use engine_requests::{
 use engine_terms::{Call, OciDistributionError};
 use http_challenges::BearerChallenge;
 use json_values::Copied;
-use oci_auth::{Memory, RegistryAuth, RegistryOperation, RegistryTokenType};
+use oci_auth::{AuthState, RegistryAuth, RegistryOperation, RegistryTokenType};
 use oci_transport::{Method, Request, Transport, UrlError, request_url, targets};
 use std::alloc::{AllocError, Global};
 use url::Url;
@@ -33,7 +33,7 @@ fn realm_asked<T: Transport>(
     op: RegistryOperation,
     challenge: BearerChallenge,
 ) -> Result<Option<RegistryTokenType>, OciDistributionError>
-    ensures run { (k : Memory) → Meets is_memory
+    ensures run { (k : AuthState) → Meets is_memory
         (realm_asked call.now.settings.now call.now.image.now auth.now op challenge)
         (T.state transport.old) (T.state transport.new) k k result }
     ensures bearer { IfOk result (IfNoBearer ⊥) }
@@ -56,10 +56,10 @@ fn fetched<T: Transport>(
     op: RegistryOperation,
     wanted: Wanted,
 ) -> Result<Option<RegistryTokenType>, OciDistributionError>
-    ensures run { (k : Memory) → Meets is_memory
+    ensures run { (k : AuthState) → Meets is_memory
         (fetched call.now.settings.now call.now.image.now auth.now op wanted)
         (T.state transport.old) (T.state transport.new) k k result }
-    ensures quiet { IfOk result (IfNoBearer (T.state transport.new ≡ T.state transport.old)) }
+    ensures unchanged { IfOk result (IfNoBearer (T.state transport.new ≡ T.state transport.old)) }
 {
     match wanted {
         Wanted::Nothing => Ok(None),
@@ -83,10 +83,10 @@ fn registry_asked<T: Transport>(
     auth: &RegistryAuth,
     op: RegistryOperation,
 ) -> Result<Option<RegistryTokenType>, OciDistributionError>
-    ensures run { (k : Memory) → Meets is_memory
+    ensures run { (k : AuthState) → Meets is_memory
         (registry_asked call.now.settings.now call.now.image.now auth.now op)
         (T.state transport.old) (T.state transport.new) k k result }
-    ensures untaken { IfOk result (IfNoBearer (LastUntaken (T.state transport.old) (T.state transport.new))) }
+    ensures body_unread { IfOk result (IfNoBearer (LastBodyUnread (T.state transport.old) (T.state transport.new))) }
 {
     let url = base_url(alloc, call.settings, call.image)?;
     let request = request_of(alloc, call.settings, Method::Get, &url, None, &None)?;
@@ -106,9 +106,9 @@ pub fn token_step<T: Transport>(
     auth: &RegistryAuth,
     op: RegistryOperation,
 ) -> Result<Option<RegistryTokenType>, OciDistributionError>
-    ensures run { (k : Memory) → Meets is_memory (token_step call.now.settings.now call.now.image.now auth.now op)
+    ensures run { (k : AuthState) → Meets is_memory (token_step call.now.settings.now call.now.image.now auth.now op)
         (T.state transport.old) (T.state transport.new) k k result }
-    ensures untaken { IfOk result (IfNoBearer (LastUntaken (T.state transport.old) (T.state transport.new))) }
+    ensures body_unread { IfOk result (IfNoBearer (LastBodyUnread (T.state transport.old) (T.state transport.new))) }
 {
     match auth {
         RegistryAuth::Bearer(_) => {
@@ -131,7 +131,7 @@ pub fn token_step<T: Transport>(
 fn token_asked<T: Transport>(
     alloc: Global,
     transport: &mut T,
-    memory: &mut Memory,
+    memory: &mut AuthState,
     call: &Call,
     op: RegistryOperation,
     auth: &RegistryAuth,
@@ -167,7 +167,7 @@ fn passed_over(
 fn token_for<T: Transport>(
     alloc: Global,
     transport: &mut T,
-    memory: &mut Memory,
+    memory: &mut AuthState,
     call: &Call,
     op: RegistryOperation,
 ) -> Result<Option<RegistryTokenType>, OciDistributionError>
@@ -204,7 +204,7 @@ fn goes_to(alloc: Global, url: &Url, registry: &Url) -> Result<bool, AllocError>
 pub fn authorized<T: Transport>(
     alloc: Global,
     transport: &mut T,
-    memory: &mut Memory,
+    memory: &mut AuthState,
     call: &Call,
     op: RegistryOperation,
     url: &Url,
@@ -234,7 +234,7 @@ pub struct Target<'a> {
 pub fn prepared<T: Transport>(
     alloc: Global,
     transport: &mut T,
-    memory: &mut Memory,
+    memory: &mut AuthState,
     call: &Call,
     op: RegistryOperation,
     target: &Target,

@@ -6,7 +6,7 @@ use Rattle.std.proofs.lemmas.Result.{err_from_is_err_and}
 use Rattle.oci_transport.specs.Link.{Link, Steady}
 use Rattle.oci_transport.specs.declared.message.Request.{Request}
 use Rattle.oci_transport.specs.declared.message.AnswerHead.{AnswerHead}
-use Rattle.oci_auth.specs.declared.memory.Memory.{Memory}
+use Rattle.oci_auth.specs.declared.auth_state.AuthState.{AuthState}
 use Rattle.oci_protocol.specs.Proto.{Unread, limit_of}
 use Rattle.oci_protocol.specs.Follow.{Reaches, Misses, Cuts}
 use Rattle.oci_protocol.specs.Runs.{Meets}
@@ -14,7 +14,7 @@ use Rattle.oci_protocol.proofs.Laws.{Meets-err}
 use Rattle.oci_protocol.proofs.RedirectSteps.{reached_headed, reached_answered, reached_long, reached_failed, reached_cut, missed, cut}
 use Rattle.engine_terms.specs.declared.error.OciDistributionError.{OciDistributionError}
 use Rattle.engine_terms.specs.declared.error.OciDistributionError.TheVariants as refusal
-use Rattle.engine_terms.specs.Error.{is_memory, Says}
+use Rattle.engine_terms.specs.Error.{is_memory, Matches}
 use Rattle.engine_answers.specs.Answers.{is_error}
 use Rattle.engine_rows.proofs.Exits.{said}
 use Rattle.engine_steps.proofs.HelperTrees.{reached_untaken}
@@ -32,23 +32,23 @@ read : (limit : ℕ) (takes : AnswerHead → Bool) (head : AnswerHead) → takes
 unfolding judged_reading
 read limit takes head is = ap (λ (b : Bool). limit_of (reading_unless limit b)) is
 
-pub judged_missed : {A : Type 0} (limit : ℕ) (takes : AnswerHead → Bool) (made : AnswerHead → Result A OciDistributionError) (request : Request) (old new : Link) (k : Memory) → Misses 10 request old new → Meets is_memory (judged limit takes made request) old new k k (Err refusal.TransportFault)
+pub judged_missed : {A : Type 0} (limit : ℕ) (takes : AnswerHead → Bool) (made : AnswerHead → Result A OciDistributionError) (request : Request) (old new : Link) (k : AuthState) → Misses 10 request old new → Meets is_memory (judged limit takes made request) old new k k (Err refusal.TransportFault)
 unfolding judged
 judged_missed limit takes made request old new k m = missed 10 request (judged_reading limit takes) (judged_reply made) m (λ last. Meets-err is_memory new k refusal.TransportFault refl)
 
-pub judged_cut : {A : Type 0} (limit : ℕ) (takes : AnswerHead → Bool) (made : AnswerHead → Result A OciDistributionError) (request : Request) (old new : Link) (k : Memory) → Cuts 10 request old new → Meets is_memory (judged limit takes made request) old new k k (Err refusal.WantOfMemory)
+pub judged_cut : {A : Type 0} (limit : ℕ) (takes : AnswerHead → Bool) (made : AnswerHead → Result A OciDistributionError) (request : Request) (old new : Link) (k : AuthState) → Cuts 10 request old new → Meets is_memory (judged limit takes made request) old new k k (Err refusal.WantOfMemory)
 unfolding judged
 judged_cut limit takes made request old new k c = cut is_memory 10 request (judged_reading limit takes) (judged_reply made) k refusal.WantOfMemory c refl
 
 -- the response is used
-pub judged_taken : {A : Type 0} (limit : ℕ) (takes : AnswerHead → Bool) (made : AnswerHead → Result A OciDistributionError) (request : Request) (head : AnswerHead) (last : Request) (old new : Link) (k : Memory) (r : Result A OciDistributionError)
-    → Reaches 10 request head last old new → takes head ≡ true → Says r (made head) → Meets is_memory (judged limit takes made request) old new k k r
+pub judged_taken : {A : Type 0} (limit : ℕ) (takes : AnswerHead → Bool) (made : AnswerHead → Result A OciDistributionError) (request : Request) (head : AnswerHead) (last : Request) (old new : Link) (k : AuthState) (r : Result A OciDistributionError)
+    → Reaches 10 request head last old new → takes head ≡ true → Matches r (made head) → Meets is_memory (judged limit takes made request) old new k k r
 unfolding judged
 judged_taken limit takes made request head last old new k r reach is says = reached_headed 10 request (judged_reading limit takes) (judged_reply made) head last reach (unread limit takes head is) (said r says)
 
 -- the same at the exit of a `?`
-pub judged_on : {A : Type 0} (limit : ℕ) (takes : AnswerHead → Bool) (made : AnswerHead → Result A OciDistributionError) (request : Request) (head : AnswerHead) (last : Request) (old new : Link) (k : Memory) (e : OciDistributionError) (r : Result A OciDistributionError)
-    → Reaches 10 request head last old new → takes head ≡ true → Says {A = A} (Err e) (made head) → IsErrAnd r (λ x. x ≡ e) → Meets is_memory (judged limit takes made request) old new k k r
+pub judged_on : {A : Type 0} (limit : ℕ) (takes : AnswerHead → Bool) (made : AnswerHead → Result A OciDistributionError) (request : Request) (head : AnswerHead) (last : Request) (old new : Link) (k : AuthState) (e : OciDistributionError) (r : Result A OciDistributionError)
+    → Reaches 10 request head last old new → takes head ≡ true → Matches {A = A} (Err e) (made head) → IsErrAnd r (λ x. x ≡ e) → Meets is_memory (judged limit takes made request) old new k k r
 judged_on limit takes made request head last old new k e r reach is says at_exit = let at = err_from_is_err_and r at_exit in rw (at.1, at.2) (judged_taken limit takes made request head last old new k (Err e) reach is says)
 
 unless_memory : (b : Bool) (P : Type 0) → P → MatchBool b (Unit {0}) P
@@ -56,7 +56,7 @@ unless_memory true P p = tt
 unless_memory false P p = p
 
 -- the response is refused, and its body read
-pub judged_refused : {A : Type 0} (limit : ℕ) (takes : AnswerHead → Bool) (made : AnswerHead → Result A OciDistributionError) (request : Request) (head : AnswerHead) (last : Request) (old mid new : Link) (k : Memory) (e : OciDistributionError)
+pub judged_refused : {A : Type 0} (limit : ℕ) (takes : AnswerHead → Bool) (made : AnswerHead → Result A OciDistributionError) (request : Request) (head : AnswerHead) (last : Request) (old mid new : Link) (k : AuthState) (e : OciDistributionError)
     → Reaches 10 request head last old mid → takes head ≡ false → mid.faults ≤ new.faults → new.told ≡ mid.told → Steady mid new → Refuses limit last.url head mid new e → Meets is_memory (judged limit takes made request) old new k k (Err e)
 unfolding judged
 judged_refused limit takes made request head last old mid new k e reach is le same steady (inl wanted) = reached_cut is_memory 10 request (judged_reading limit takes) (judged_reply made) head last k e reach le same steady wanted
@@ -78,15 +78,15 @@ pub streams_too : (range : Option ByteRange) (head : AnswerHead) (b : Bool) → 
 unfolding streams_or_passes
 streams_too range head b is too = ap (λ (c : Bool). c || is_streamed range head.status) is ∙ too
 
-pub passed_over : (range : Option ByteRange) (digest : List ℕ) (head : AnswerHead) → is_error head.status ≡ true → Says (Ok None) (opening_unless_error range digest head)
+pub passed_over : (range : Option ByteRange) (digest : List ℕ) (head : AnswerHead) → is_error head.status ≡ true → Matches (Ok None) (opening_unless_error range digest head)
 unfolding opening_unless_error
 passed_over range digest head is = ap (λ (b : Bool). if b then Ok None else some_opening (opening range digest head)) is
 
-pub opened_here : (range : Option ByteRange) (digest : List ℕ) (head : AnswerHead) (o : Opening) → is_error head.status ≡ false → opening range digest head ≡ Ok o → Says (Ok (Some o)) (opening_unless_error range digest head)
+pub opened_here : (range : Option ByteRange) (digest : List ℕ) (head : AnswerHead) (o : Opening) → is_error head.status ≡ false → opening range digest head ≡ Ok o → Matches (Ok (Some o)) (opening_unless_error range digest head)
 unfolding opening_unless_error
 opened_here range digest head o is made = ap (λ (b : Bool). if b then Ok None else some_opening (opening range digest head)) is ∙ ap some_opening made
 
-pub not_opened : (range : Option ByteRange) (digest : List ℕ) (head : AnswerHead) (e : OciDistributionError) → is_error head.status ≡ false → Says {A = Opening} (Err e) (opening range digest head) → Says {A = Option Opening} (Err e) (opening_unless_error range digest head)
+pub not_opened : (range : Option ByteRange) (digest : List ℕ) (head : AnswerHead) (e : OciDistributionError) → is_error head.status ≡ false → Matches {A = Opening} (Err e) (opening range digest head) → Matches {A = Option Opening} (Err e) (opening_unless_error range digest head)
 unfolding opening_unless_error
 not_opened range digest head e is = by_memory (is_memory e) where
   made : opening range digest head ≡ Err e → opening_unless_error range digest head ≡ Err e

@@ -1,6 +1,6 @@
 -- A blob whose bytes are left to be taken, in the terms of the OCI distribution specification ("Pulling blobs").
 use Rattle.std.specs.Prelude.{◌≡◌, ◌≤◌, ◌⊎◌, ℕ, true, List, [], ◌∷◌, length, Option, Some, None, Result, Ok, Err}
-use Rattle.json_values.specs.Counts.{Rose}
+use Rattle.json_values.specs.Counts.{Increased}
 use Rattle.oci_transport.specs.Link.{Link, answer_of, EndsUnbroken, TakesPast}
 use Rattle.oci_transport.specs.declared.message.AnswerHead.{AnswerHead}
 use Rattle.oci_transport.specs.declared.message.Method.TheVariants.{Get}
@@ -19,7 +19,7 @@ use Rattle.engine_terms.specs.declared.error.OciDistributionError.TheVariants as
 use Rattle.engine_terms.specs.declared.settings.Settings.{Settings}
 use Rattle.engine_requests.specs.declared.sources.Place.{Place}
 use Rattle.engine_rows.specs.Rows.{Row, prepared}
-use Rattle.engine_steps.specs.Untaken.{Untaken}
+use Rattle.engine_steps.specs.BodyUnread.{BodyUnread}
 use Rattle.engine_streams.specs.Head.{opening}
 use Rattle.engine_streams.specs.Range.{range_text, with_range}
 use Rattle.engine_streams.specs.Streams.{opening_of}
@@ -94,13 +94,13 @@ stream_in (response.Partial s) = s
 pub record IsLeft (range : Option ByteRange) (digest : List ℕ) (o : Opening) (old new : Link) : Type 0 where
   pub head : AnswerHead
   pub said : opening range digest head ≡ Ok o
-  pub untaken : Untaken head old new
+  pub untaken : BodyUnread head old new
 
 -- Why a response with this head from this URL is refused, as its body is read.
 abbrev pub Refuses : ℕ → List ℕ → AnswerHead → Link → Link → OciDistributionError → Type 0
 Refuses limit url head old new e =
     (is_memory e ≡ true)
-    ⊎ ((e ≡ refusal.TransportFault) × Rose old.faults new.faults)
+    ⊎ ((e ≡ refusal.TransportFault) × Increased old.faults new.faults)
     ⊎ ((e ≡ refusal.BodyTooLong) × TakesPast limit old new)
     ⊎ ((body : List ℕ) × (length body ≤ limit) × ((rest : List ℕ) → old.rest ≡ Some rest → body ≡ rest)
     × EndsUnbroken old new × (e ≡ refused_answer 200 url (answer_of head body)))

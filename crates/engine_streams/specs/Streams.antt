@@ -1,6 +1,6 @@
 -- A stream of a blob's bytes: what it returned so far, and what its next piece is.
 use Rattle.std.specs.Prelude.{◌≡◌, ◌<◌, ℕ, ◌+◌, List, [], ◌++◌, length, Option, Some, None, option_map, Result, Ok, Err}
-use Rattle.json_values.specs.Counts.{Rose}
+use Rattle.json_values.specs.Counts.{Increased}
 use Rattle.oci_transport.specs.Link.{Link, Takes}
 use Rattle.oci_digests.specs.Both.{BothHold}
 use Rattle.engine_answers.specs.Blobs.{both_compared, given_algorithm}
@@ -59,7 +59,7 @@ NothingLeft old new = Takes [] old new
 -- why a stream that returned these bytes refuses the next piece
 abbrev pub NextCause : ℕ → List ℕ → Option Digests → Link → Link → OciDistributionError → Type 0
 NextCause limit gave digests old new refusal.WantOfMemory = Unit {0}
-NextCause limit gave digests old new refusal.TransportFault = Rose old.faults new.faults
+NextCause limit gave digests old new refusal.TransportFault = Increased old.faults new.faults
 NextCause limit gave digests old new refusal.BodyTooLong =
     (rest : List ℕ) → old.rest ≡ Some rest → limit < length gave + length rest
 NextCause limit gave digests old new (refusal.DigestError e) =
@@ -75,6 +75,6 @@ Next limit gave after old new (Ok None) =
 Next limit gave after old new (Err e) = NextCause limit gave (digests_of after.check) old new e × HasFailed after
 
 -- a piece that is returned, if one is, is a prefix of what was left
-abbrev pub GivesFront : Option (List ℕ) → Link → Link → Type 0
-GivesFront None old new = Unit {0}
-GivesFront (Some piece) old new = IsNextPiece piece old new
+abbrev pub GivesPrefix : Option (List ℕ) → Link → Link → Type 0
+GivesPrefix None old new = Unit {0}
+GivesPrefix (Some piece) old new = IsNextPiece piece old new

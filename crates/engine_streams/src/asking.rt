@@ -1,9 +1,9 @@
 // Sends requests for a blob whose bytes are left to be taken.
 ghost use Rattle.std.specs.Prelude.{◌≡◌, ◌≤◌, IfOk, IfSome};
-ghost use Rattle.oci_auth.specs.declared.memory.Memory.{Memory};
+ghost use Rattle.oci_auth.specs.declared.auth_state.AuthState.{AuthState};
 ghost use Rattle.oci_transport.specs.Link.{Steady};
 ghost use Rattle.oci_protocol.specs.Runs.{Meets};
-ghost use Rattle.engine_terms.specs.Error.{is_memory, Says};
+ghost use Rattle.engine_terms.specs.Error.{is_memory, Matches};
 ghost use Rattle.engine_requests.specs.Sources.{places_of};
 ghost use Rattle.engine_streams.specs.Blobs.{tried, IsLeft, Refuses};
 ghost use Rattle.engine_streams.specs.Asking.{asked, offered, ranged_at};
@@ -61,7 +61,7 @@ fn asked<T: Transport>(
     range: &Option<ByteRange>,
     request: &Request,
 ) -> Result<Opening, OciDistributionError>
-    ensures run { (k : Memory) → Meets is_memory
+    ensures run { (k : AuthState) → Meets is_memory
         (asked limit range.now digest.now request.now)
         (T.state transport.old) (T.state transport.new) k k result }
     ensures left { IfOk result (λ opening. IsLeft range.now digest.now opening
@@ -88,7 +88,7 @@ fn offered<T: Transport>(
     range: &Option<ByteRange>,
     request: &Request,
 ) -> Result<Option<Opening>, OciDistributionError>
-    ensures run { (k : Memory) → Meets is_memory
+    ensures run { (k : AuthState) → Meets is_memory
         (offered limit range.now digest.now request.now)
         (T.state transport.old) (T.state transport.new) k k result }
     ensures left { IfOk result (λ found. IfSome found (λ opening.
@@ -117,7 +117,7 @@ fn ranged_at(
     range: &Option<ByteRange>,
     place: Place,
 ) -> Result<Request, OciDistributionError>
-    ensures { Says result (ranged_at settings.now range.now place) }
+    ensures { Matches result (ranged_at settings.now range.now place) }
 {
     let request = asked_at(alloc, settings, place)?;
     let text = onward(alloc, range)?;
@@ -135,7 +135,7 @@ pub(crate) fn tried<T: Transport>(
     urls: &[Text],
     mut request: Request,
 ) -> Result<Opening, OciDistributionError>
-    ensures run { (k : Memory) → Meets is_memory
+    ensures run { (k : AuthState) → Meets is_memory
         (tried settings.now range.now digest.now (places_of urls.now) request)
         (T.state transport.old) (T.state transport.new) k k result }
     ensures left { IfOk result (λ opening. IsLeft range.now digest.now opening

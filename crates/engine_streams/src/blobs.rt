@@ -1,6 +1,6 @@
 // Opens blobs whose bytes are taken afterwards.
 ghost use Rattle.std.specs.Prelude.{◌≡◌, [], Some, None, IfOk};
-ghost use Rattle.oci_auth.specs.declared.memory.Memory.{Memory};
+ghost use Rattle.oci_auth.specs.declared.auth_state.AuthState.{AuthState};
 ghost use Rattle.oci_protocol.specs.Runs.{Meets};
 ghost use Rattle.engine_terms.specs.Contexts.{context_of};
 ghost use Rattle.engine_terms.specs.Error.{is_memory};
@@ -17,7 +17,7 @@ use engine_requests::{LayerDescriptor, MANIFEST_TYPES, blob_url};
 use engine_steps::{Target, prepared};
 use engine_terms::{Call, OciDistributionError};
 use json_values::Text;
-use oci_auth::{Memory, RegistryOperation};
+use oci_auth::{AuthState, RegistryOperation};
 use oci_transport::{Method, Transport};
 use std::alloc::Global;
 
@@ -43,7 +43,7 @@ fn urls_of<'a>(layer: &LayerDescriptor<'a>) -> &'a [Text]
 fn opened<T: Transport>(
     alloc: Global,
     transport: &mut T,
-    memory: &mut Memory,
+    memory: &mut AuthState,
     call: &Call,
     layer: &LayerDescriptor,
     range: Option<ByteRange>,
@@ -86,7 +86,7 @@ fn opened<T: Transport>(
 pub fn pull_blob_stream<T: Transport>(
     alloc: Global,
     transport: &mut T,
-    memory: &mut Memory,
+    memory: &mut AuthState,
     call: &Call,
     layer: &LayerDescriptor,
 ) -> Result<SizedStream, OciDistributionError>
@@ -117,7 +117,7 @@ fn by_digests(opening: Opening, limit: u64) -> BlobResponse
 pub fn pull_blob_stream_partial<T: Transport>(
     alloc: Global,
     transport: &mut T,
-    memory: &mut Memory,
+    memory: &mut AuthState,
     call: &Call,
     layer: &LayerDescriptor,
     range: ByteRange,

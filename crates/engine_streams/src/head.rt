@@ -2,7 +2,7 @@
 ghost use Rattle.std.specs.Prelude.{◌≡◌, IfOk};
 ghost use Rattle.std.specs.List.{list_all};
 ghost use Rattle.oci_transport.specs.Headers.{first_of};
-ghost use Rattle.engine_terms.specs.Error.{Says};
+ghost use Rattle.engine_terms.specs.Error.{Matches};
 ghost use Rattle.engine_streams.specs.Head.{is_digit, is_decimal, decimal_of, content_length, expected, given};
 ghost use Rattle.engine_streams.specs.Head.{unless_part, opening, is_streamed};
 
@@ -77,14 +77,14 @@ fn content_length(headers: &Headers) -> Option<u64>
 }
 
 fn expected(alloc: Global, text: &str) -> Result<Expected, OciDistributionError>
-    ensures { Says result (expected text.now) }
+    ensures { Matches result (expected text.now) }
 {
     let expected = of_digest(digest_expected(alloc, text))?;
     Ok(expected)
 }
 
 fn given(alloc: Global, value: &Option<Text>) -> Result<Option<Expected>, OciDistributionError>
-    ensures { Says result (given value.now) }
+    ensures { Matches result (given value.now) }
 {
     match value {
         Some(text) => {
@@ -113,7 +113,7 @@ pub(crate) fn read_head(
     digest: &str,
     head: &AnswerHead,
 ) -> Result<Opening, OciDistributionError>
-    ensures { Says result (opening range.now digest.now head.now) }
+    ensures { Matches result (opening range.now digest.now head.now) }
 {
     let own = expected(alloc, digest)?;
     let value = header_digest(alloc, &head.headers)?;

@@ -1,10 +1,10 @@
 // A stream of a blob's bytes.
 ghost use Rattle.std.specs.Prelude.{◌≡◌, ◌≤◌, ◌<◌, ◌++◌, [], List, ℕ, length, Ok, Err, None, IfOk, IfErr, OnErr, ◌⊎◌};
-ghost use Rattle.json_values.specs.Counts.{Rose};
+ghost use Rattle.json_values.specs.Counts.{Increased};
 ghost use Rattle.oci_transport.specs.Link.{Steady, Takes};
-ghost use Rattle.engine_terms.specs.Error.{Says};
+ghost use Rattle.engine_terms.specs.Error.{Matches};
 ghost use Rattle.engine_streams.specs.Streams.{Hashed, compared, digests_of, opening_of, IsOpen, HasEnded};
-ghost use Rattle.engine_streams.specs.Streams.{HasFailed, Next, GivesFront};
+ghost use Rattle.engine_streams.specs.Streams.{HasFailed, Next, GivesPrefix};
 
 use crate::head::{Digests, Opening};
 use engine_answers::{both_compared, digesters};
@@ -68,7 +68,7 @@ fn hash(check: &mut Option<Check>, piece: &[u8])
 
 fn compare(alloc: Global, check: &mut Option<Check>) -> Result<(), OciDistributionError>
     ensures digests { digests_of check.new ≡ digests_of check.old }
-    ensures says { (m : List ℕ) → Hashed check.old m → Says result (compared (digests_of check.old) m) }
+    ensures exact { (m : List ℕ) → Hashed check.old m → Matches result (compared (digests_of check.old) m) }
 {
     if let Some(check) = check {
         let Digests { given, own } = &check.digests;
@@ -85,7 +85,7 @@ fn piece<T: Transport>(alloc: Global, transport: &mut T) -> Result<Blob, OciDist
     ensures taken { IfOk result (λ piece. Takes piece (T.state transport.old) (T.state transport.new)) }
     ensures refused { IfErr result (λ e. (e ≡ OciDistributionError.WantOfMemory)
         ⊎ ((e ≡ OciDistributionError.TransportFault)
-        × Rose (T.state transport.old).faults (T.state transport.new).faults)) }
+        × Increased (T.state transport.old).faults (T.state transport.new).faults)) }
 {
     match transport.piece(alloc) {
         Ok(piece) => Ok(piece),
@@ -127,7 +127,7 @@ impl SizedStream {
     ) -> Result<Option<Blob>, OciDistributionError>
         ensures next { (limit : ℕ) (gave : List ℕ) → IsOpen limit gave self.old
             → Next limit gave self.new (T.state transport.old) (T.state transport.new) result }
-        ensures piece { IfOk result (λ given. GivesFront given (T.state transport.old) (T.state transport.new)) }
+        ensures piece { IfOk result (λ given. GivesPrefix given (T.state transport.old) (T.state transport.new)) }
         ensures ended { HasEnded self.old → (result ≡ Ok None) × HasEnded self.new
             × (T.state transport.new ≡ T.state transport.old) }
         ensures failed { HasFailed self.old → (result ≡ Err OciDistributionError.StreamFailed) × HasFailed self.new

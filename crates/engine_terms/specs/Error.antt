@@ -41,12 +41,12 @@ name_of (refusal.VersionedParsingError a) = codes "VersionedParsingError"
 name_of refusal.WantOfMemory = codes "WantOfMemory"
 
 -- the result of a step without a request, unless memory ran out
-abbrev pub Says : {A : Type 0} → Result A OciDistributionError → Result A OciDistributionError → Type 0
-Says answer said = Refusals.Says is_memory answer said
+abbrev pub Matches : {A : Type 0} → Result A OciDistributionError → Result A OciDistributionError → Type 0
+Matches answer said = Refusals.Matches is_memory answer said
 
 -- the refusal is this one, unless memory ran out
-abbrev pub SaysError : OciDistributionError → OciDistributionError → Type 0
-SaysError e said = Refusals.SaysError is_memory e said
+abbrev pub MatchesError : OciDistributionError → OciDistributionError → Type 0
+MatchesError e said = Refusals.MatchesError is_memory e said
 
 infixl 10 ◌>>=◌
 -- a refusal ends the steps

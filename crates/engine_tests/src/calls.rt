@@ -72,13 +72,13 @@ fn listed(found: &Result<(OciManifest, Text), OciDistributionError>) -> Option<u
 }
 
 // Drops what was found if nothing is known of it.
-fn let_document_go(_found: Result<(OciManifest, Text), OciDistributionError>) {}
+fn drop_document(_found: Result<(OciManifest, Text), OciDistributionError>) {}
 
 fn layers_listed(alloc: Global, script: &mut Script) -> Option<usize> {
     let (mut client, image) = begun(alloc)?;
     let found = client.pull_manifest(alloc, script, 100, &image, &RegistryAuth::Anonymous);
     let count = listed(&found);
-    let_document_go(found);
+    drop_document(found);
     count
 }
 
@@ -110,7 +110,7 @@ fn pulled(found: &Result<ImageData, OciDistributionError>) -> Option<usize> {
     }
 }
 
-fn let_image_go(_found: Result<ImageData, OciDistributionError>) {}
+fn drop_image(_found: Result<ImageData, OciDistributionError>) {}
 
 fn layers_pulled(alloc: Global, script: &mut Script) -> Option<usize> {
     let accepted = accepted(alloc).ok()?;
@@ -118,7 +118,7 @@ fn layers_pulled(alloc: Global, script: &mut Script) -> Option<usize> {
     let auth = RegistryAuth::Anonymous;
     let found = client.pull(alloc, script, 100, &image, &auth, accepted.as_slice());
     let count = pulled(&found);
-    let_image_go(found);
+    drop_image(found);
     count
 }
 
@@ -192,14 +192,14 @@ fn is_meant(found: &Result<Blob, OciDistributionError>) -> bool {
     }
 }
 
-fn let_blob_go(_found: Result<Blob, OciDistributionError>) {}
+fn drop_blob(_found: Result<Blob, OciDistributionError>) {}
 
 fn is_pulled<L: AsLayerDescriptor>(alloc: Global, layer: &L) -> Option<bool> {
     let mut script = script(alloc, &[(LAYER_DIGEST, "hello world")]).ok()?;
     let (mut client, image) = begun(alloc)?;
     let found = client.pulled_blob(alloc, &mut script, 100, &image, layer);
     let meant = is_meant(&found);
-    let_blob_go(found);
+    drop_blob(found);
     Some(meant)
 }
 

@@ -65,14 +65,14 @@ fn text_of(alloc: Global, found: &Result<OciImageIndex, OciDistributionError>) -
 }
 
 // Drops what was found if nothing is known of it.
-fn let_go(_found: Result<OciImageIndex, OciDistributionError>) {}
+fn drop_index(_found: Result<OciImageIndex, OciDistributionError>) {}
 
 fn outcome(alloc: Global, kind: Option<&str>, given: &[(u16, &str)]) -> Option<Text> {
     let mut script = answers(alloc, given).ok()?;
     let (mut client, image) = begun(alloc)?;
     let found = client.pull_referrers(alloc, &mut script, 100, &image, kind);
     let text = text_of(alloc, &found);
-    let_go(found);
+    drop_index(found);
     text
 }
 

@@ -5,7 +5,7 @@ use json_values::{Blob, Copied, List};
 use oci_link::{FaultyShelf, Shelf};
 use oci_transport::Transport;
 use pull_case::Case;
-use pull_report::{let_go, write_outcome};
+use pull_report::{drop_outcome, write_outcome};
 use sig_registry::{Auth, ClientConfig, ClientProtocol, OciReference};
 use std::alloc::{AllocError, Global};
 
@@ -65,7 +65,7 @@ fn outcome_over(
         &terms.case.vouched,
     );
     let lines = lines_of(alloc, &outcome);
-    let_go(outcome);
+    drop_outcome(outcome);
     lines
 }
 

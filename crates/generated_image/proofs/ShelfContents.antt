@@ -17,7 +17,7 @@ use Rattle.oci_link.specs.declared.shelf.Shelf.{Shelf}
 use Rattle.oci_link.specs.declared.shelf.ShelfDocument.{ShelfDocument}
 use Rattle.engine_answers.specs.Documents.{document_read}
 use Rattle.engine_terms.specs.declared.settings.Settings.{Settings}
-use Rattle.shelf_laws.specs.Shelves.{IsShort, HasDocument, HasBlob, HasLayer, HasBlobs, HasManifest, ImageOn}
+use Rattle.shelf_laws.specs.Shelves.{FitsLimit, HasDocument, HasBlob, HasLayer, HasBlobs, HasManifest, ImageOn}
 use Rattle.generated_image.specs.Shelf.{with_each, manifest_document, tag_for, payload_of, generated_shelf, HasTwoDigests}
 use Rattle.generated_image.specs.Texts.{sha256_text, layer_contents, layer_type, payload_type, config_type, config_content, descriptor_of, joined, image_text, payload_text, signature_note, signatures_text}
 use Rattle.generated_image.proofs.Lengths.{digest_within, both_within, descriptor_within, joined_within, layers_within, layers_count}
@@ -196,7 +196,7 @@ no_referrers : (n : ℕ) → Kept (λ digest body. ⊥) (generated_shelf n).refe
 unfolding generated_shelf
 no_referrers n = kept_empty (λ digest body. ⊥)
 
-pub is_short : (s : Settings) (n : ℕ) → n ≤ 1000 → 301500 ≤ s.max_body_bytes → IsShort s (generated_shelf n)
+pub is_short : (s : Settings) (n : ℕ) → n ≤ 1000 → 301500 ≤ s.max_body_bytes → FitsLimit s (generated_shelf n)
 is_short s n small room = record {
   documents = λ digest document there. let fits = documents_fit n small digest document there in omega (arith, fits, room);
   blobs = λ digest blob there. let fits = (blobs_fit n small digest blob there).1 in omega (arith, fits, room);

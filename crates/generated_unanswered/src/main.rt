@@ -8,7 +8,7 @@ use json_values::{Blob, List, put_all};
 use oci_transport::Script;
 use pull_edge::StdSink;
 use pull_generated::pull_generated;
-use pull_report::{let_go, write_report};
+use pull_report::{drop_outcome, write_report};
 use std::alloc::{AllocError, Global};
 use std::process::ExitCode;
 
@@ -18,7 +18,7 @@ fn report(alloc: Global) -> Result<Blob, AllocError> {
     let mut bytes = Blob::empty(alloc);
     let conversation = script.conversation().as_slice();
     let written = write_report(alloc, &mut bytes, 100, conversation, &outcome);
-    let_go(outcome);
+    drop_outcome(outcome);
     written?;
     Ok(bytes)
 }

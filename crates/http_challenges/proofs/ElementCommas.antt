@@ -7,7 +7,7 @@ use Rattle.http_challenges.specs.declared.split.Place.{Place}
 use Rattle.http_challenges.specs.declared.split.Place.TheVariants.{Outside, Quoted as InString, Escaped}
 use Rattle.http_challenges.specs.Grammar.{is_blank_byte, is_token_byte}
 use Rattle.http_challenges.specs.Split.{split_from, split_rest, is_comma, place_after}
-use Rattle.http_challenges.specs.Words.{Blanks, Token, Says, Quoted, Value, IsParameter, AddsParameter, FirstParameter, BeginsChallenge, is_plain_byte, behind_comma}
+use Rattle.http_challenges.specs.Words.{Blanks, Token, Unescapes, Quoted, Value, IsParameter, AddsParameter, FirstParameter, BeginsChallenge, is_plain_byte, behind_comma}
 use Rattle.http_challenges.proofs.Commas.{onto_front}
 use Rattle.http_challenges.proofs.Cuts.{and_left, and_right, is_other}
 
@@ -74,10 +74,10 @@ string_after b plain =
     let slash : (b == 92) ≡ false = grind (arith, nat_tests, plain) in
     ap (λ v. cond v Outside (cond (b == 92) Escaped InString)) quote ∙ ap (λ v. cond v Escaped InString) slash
 
-walk_says : (text content : List ℕ) → Says text content → Walks InString text InString
-walk_says _ _ Says.nothing = Walks.stays InString
-walk_says _ _ (Says.plain b text content plain says) = Walks.steps InString InString b text refl (subst (λ place. Walks place text InString) (sym (string_after b plain)) (walk_says text content says))
-walk_says _ _ (Says.literal b text content says) = Walks.steps InString InString 92 (b ∷ text) refl (Walks.steps Escaped InString b text refl (walk_says text content says))
+walk_says : (text content : List ℕ) → Unescapes text content → Walks InString text InString
+walk_says _ _ Unescapes.nothing = Walks.stays InString
+walk_says _ _ (Unescapes.plain b text content plain says) = Walks.steps InString InString b text refl (subst (λ place. Walks place text InString) (sym (string_after b plain)) (walk_says text content says))
+walk_says _ _ (Unescapes.literal b text content says) = Walks.steps InString InString 92 (b ∷ text) refl (Walks.steps Escaped InString b text refl (walk_says text content says))
 
 walk_quoted : (text content : List ℕ) → Quoted text content → Walks Outside text Outside
 walk_quoted text content quoted =

@@ -7,7 +7,7 @@ use Rattle.http_challenges.specs.declared.challenge.Challenge.{Challenge}
 use Rattle.http_challenges.specs.declared.element.Element.TheVariants.{Empty, Parameter, Begins, Unreadable}
 use Rattle.http_challenges.specs.Grammar.{is_blank_byte, is_token_byte, is_empty, is_blank, past_blanks, token_in, past_token, after_byte, unquoted, string_or_token, value_in, assigned, parameter_in}
 use Rattle.http_challenges.specs.Element.{element_of, element_in, after_token, added, begun, scheme_or_parameter}
-use Rattle.http_challenges.specs.Words.{Blanks, Token, Says, Value, IsParameter, AddsParameter, FirstParameter, BeginsChallenge, begins}
+use Rattle.http_challenges.specs.Words.{Blanks, Token, Unescapes, Value, IsParameter, AddsParameter, FirstParameter, BeginsChallenge, begins}
 use Rattle.http_challenges.proofs.Cuts.{front_is, rest_is, begins_append, begins_front, begins_apart, all_begins, both_true, is_other, not_blank, not_token}
 use Rattle.http_challenges.proofs.Quotes.{quote_full, plain_byte, literal_byte}
 
@@ -38,13 +38,13 @@ pub no_byte : (c : ℕ) (text : List ℕ) → begins (λ b. b == c) text ≡ fal
 no_byte c [] other = refl
 no_byte c (b ∷ text) other = ap (λ v. cond v (Some text) None) other
 
-says_read : (inner content back : List ℕ) → Says inner content → Blanks back → unquoted (inner ++ 34 ∷ back) ≡ Some content
-says_read _ _ back Says.nothing blanks = quote_full back blanks
-says_read _ _ back (Says.plain b text content plain says) blanks =
+says_read : (inner content back : List ℕ) → Unescapes inner content → Blanks back → unquoted (inner ++ 34 ∷ back) ≡ Some content
+says_read _ _ back Unescapes.nothing blanks = quote_full back blanks
+says_read _ _ back (Unescapes.plain b text content plain says) blanks =
     let quote : (b == 34) ≡ false = grind (arith, nat_tests, plain) in
     let slash : (b == 92) ≡ false = grind (arith, nat_tests, plain) in
     plain_byte b (text ++ 34 ∷ back) quote slash ∙ ap (option_map (λ content. b ∷ content)) (says_read text content back says blanks)
-says_read _ _ back (Says.literal b text content says) blanks = literal_byte b (text ++ 34 ∷ back) ∙ ap (option_map (λ content. b ∷ content)) (says_read text content back says blanks)
+says_read _ _ back (Unescapes.literal b text content says) blanks = literal_byte b (text ++ 34 ∷ back) ∙ ap (option_map (λ content. b ∷ content)) (says_read text content back says blanks)
 
 value_read : (written back value : List ℕ) → Value written value → Blanks back → value_in (written ++ back) ≡ Some value
 unfolding value_in

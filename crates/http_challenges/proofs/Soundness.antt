@@ -7,7 +7,7 @@ use Rattle.http_challenges.specs.declared.element.Element.{Element}
 use Rattle.http_challenges.specs.declared.element.Element.TheVariants.{Empty, Parameter, Begins, BreaksOff, Unreadable}
 use Rattle.http_challenges.specs.Grammar.{is_blank_byte, is_token_byte, is_empty, is_blank, past_blanks, token_in, past_token, after_byte, unquoted, string_or_token, value_in, assigned, parameter_in}
 use Rattle.http_challenges.specs.Element.{element_of, element_in, after_token, added, begun, scheme_or_parameter}
-use Rattle.http_challenges.specs.Words.{Blanks, Token, Says, Value, IsParameter, AddsParameter, FirstParameter, BeginsChallenge, BeginsScheme, is_plain_byte, begins, behind_comma}
+use Rattle.http_challenges.specs.Words.{Blanks, Token, Unescapes, Value, IsParameter, AddsParameter, FirstParameter, BeginsChallenge, BeginsScheme, is_plain_byte, begins, behind_comma}
 use Rattle.http_challenges.proofs.Cuts.{front_all, rest_stops, cut_whole, begins_append, begins_front, all_begins, and_left, and_right}
 use Rattle.http_challenges.proofs.Quotes.{quote_ends, plain_byte, literal_byte, unquoted-nil}
 use Rattle.http_challenges.proofs.ElementReadings.{blanks_passed}
@@ -25,26 +25,26 @@ record StringFront (text content : List ℕ) : Type 0 where
   inner : List ℕ
   back : List ℕ
   is : text ≡ inner ++ 34 ∷ back
-  says : Says inner content
+  says : Unescapes inner content
   behind : Blanks back
 
 string_closed : (b : ℕ) (text content : List ℕ) → b ≡ 34 → unquoted (b ∷ text) ≡ Some content → StringFront (b ∷ text) content
 string_closed b text content same h =
     let both = given (is_blank text) [] content (sym (ap (λ c. unquoted (c ∷ text)) same ∙ quote_ends text) ∙ h) in
-    record { inner = []; back = text; is = ap (λ c. c ∷ text) same; says = subst (Says []) (sym both.1) Says.nothing; behind = both.0 }
+    record { inner = []; back = text; is = ap (λ c. c ∷ text) same; says = subst (Unescapes []) (sym both.1) Unescapes.nothing; behind = both.0 }
 
 string_plain : (b : ℕ) (text content : List ℕ) → (b == 34) ≡ false → (b == 92) ≡ false → ((w : List ℕ) → unquoted text ≡ Some w → StringFront text w) → unquoted (b ∷ text) ≡ Some content → StringFront (b ∷ text) content
 string_plain b text content quote slash more h =
     let one = mapped (λ w. b ∷ w) (unquoted text) content (sym (plain_byte b text quote slash) ∙ h) in
     let front = more one.0 one.1 in
     let plain : is_plain_byte b ≡ true = ap (λ v. not v && not (b == 92)) quote ∙ ap not slash in
-    record { inner = b ∷ front.inner; back = front.back; is = ap (λ t. b ∷ t) front.is; says = subst (Says (b ∷ front.inner)) (sym one.2) (Says.plain b front.inner one.0 plain front.says); behind = front.behind }
+    record { inner = b ∷ front.inner; back = front.back; is = ap (λ t. b ∷ t) front.is; says = subst (Unescapes (b ∷ front.inner)) (sym one.2) (Unescapes.plain b front.inner one.0 plain front.says); behind = front.behind }
 
 string_literal : (b c : ℕ) (text content : List ℕ) → b ≡ 92 → ((w : List ℕ) → unquoted text ≡ Some w → StringFront text w) → unquoted (b ∷ c ∷ text) ≡ Some content → StringFront (b ∷ c ∷ text) content
 string_literal b c text content same more h =
     let one = mapped (λ w. c ∷ w) (unquoted text) content (sym (ap (λ x. unquoted (x ∷ c ∷ text)) same ∙ literal_byte c text) ∙ h) in
     let front = more one.0 one.1 in
-    record { inner = 92 ∷ c ∷ front.inner; back = front.back; is = ap (λ x. x ∷ c ∷ text) same ∙ ap (λ t. 92 ∷ c ∷ t) front.is; says = subst (Says (92 ∷ c ∷ front.inner)) (sym one.2) (Says.literal c front.inner one.0 front.says); behind = front.behind }
+    record { inner = 92 ∷ c ∷ front.inner; back = front.back; is = ap (λ x. x ∷ c ∷ text) same ∙ ap (λ t. 92 ∷ c ∷ t) front.is; says = subst (Unescapes (92 ∷ c ∷ front.inner)) (sym one.2) (Unescapes.literal c front.inner one.0 front.says); behind = front.behind }
 
 lone_slash : (content : List ℕ) → unquoted (92 ∷ []) ≡ Some content → ⊥
 unfolding unquoted

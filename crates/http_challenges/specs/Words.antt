@@ -20,16 +20,17 @@ abbrev pub is_plain_byte : ℕ → Bool
 is_plain_byte b = not (b == 34) && not (b == 92)
 
 -- the text between two quotes, and its content: `\` escapes the next byte
-pub data Says : List ℕ → List ℕ → Type 0 where
-  nothing : Says [] []
-  plain : (b : ℕ) (text content : List ℕ) → IsTrue (is_plain_byte b) → Says text content → Says (b ∷ text) (b ∷ content)
-  literal : (b : ℕ) (text content : List ℕ) → Says text content → Says (92 ∷ b ∷ text) (b ∷ content)
+pub data Unescapes : List ℕ → List ℕ → Type 0 where
+  nothing : Unescapes [] []
+  plain : (b : ℕ) (text content : List ℕ) → IsTrue (is_plain_byte b) → Unescapes text content
+      → Unescapes (b ∷ text) (b ∷ content)
+  literal : (b : ℕ) (text content : List ℕ) → Unescapes text content → Unescapes (92 ∷ b ∷ text) (b ∷ content)
 
 -- a quoted string, and its content
 pub record Quoted (text content : List ℕ) : Type 0 where
   pub inner : List ℕ
   pub is : text ≡ 34 ∷ (inner ++ 34 ∷ [])
-  pub says : Says inner content
+  pub says : Unescapes inner content
 
 -- the value of a parameter: a token, or the content of a quoted string
 abbrev pub Value : List ℕ → List ℕ → Type 0

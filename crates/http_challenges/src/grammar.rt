@@ -53,7 +53,7 @@ fn front_len(class: Class, bytes: &[u8]) -> usize
 
 // Splits off the prefix with bytes of this class.
 fn cut_front(class: Class, text: &str) -> (&str, &str)
-    ensures front { result.0.now ≡ take (prefix_len (has class) text.now) text.now }
+    ensures prefix { result.0.now ≡ take (prefix_len (has class) text.now) text.now }
     ensures rest { result.1.now ≡ drop (prefix_len (has class) text.now) text.now }
 {
     text.split_at(front_len(class, text.as_bytes()))

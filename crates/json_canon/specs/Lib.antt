@@ -21,4 +21,4 @@ pub use Rattle.json_values.specs.Counts
 pub use Rattle.json_values.specs.JsonText
 pub use Rattle.json_values.specs.Places
 pub use Rattle.json_values.specs.Sinks
-pub use Rattle.json_values.specs.Tray
+pub use Rattle.json_values.specs.SinkState

@@ -1,9 +1,9 @@
 -- What the calls on complete values return.
 use Rattle.std.specs.Prelude.{◌≡◌, ℕ, List, Some, None, Result, Ok, Err, ⊤, ◌⊎◌}
 use Rattle.serde_json.specs.Data.{Data}
-use Rattle.json_values.specs.Counts.{Rose}
+use Rattle.json_values.specs.Counts.{Increased}
 use Rattle.json_values.specs.JsonText.{json_of}
-use Rattle.json_values.specs.Tray.{Tray, Adds, AddsFront}
+use Rattle.json_values.specs.SinkState.{SinkState, Adds, AddsPrefix}
 use Rattle.json_events.specs.declared.error.CanonError.{CanonError}
 use Rattle.json_events.specs.declared.error.CanonError.TheVariants.{Float, IntegerOutOfRange}
 use Rattle.json_events.specs.declared.error.CanonError.TheVariants.{Unreadable, SinkFault}
@@ -25,26 +25,26 @@ GivesText (Ok t) d = Canonical d t
 GivesText (Err e) d = RefusesValue e d
 
 -- a prefix of a text of the value was written
-pub record PutsFront (d : Data) (old new : Tray) : Type 0 where
+pub record PutsPrefix (d : Data) (old new : SinkState) : Type 0 where
   pub text : List ℕ
   pub canonical : Canonical d text
-  pub front : AddsFront text old new
+  pub front : AddsPrefix text old new
 
 -- the whole text of the value was written
-pub record PutsText (d : Data) (old new : Tray) : Type 0 where
+pub record PutsText (d : Data) (old new : SinkState) : Type 0 where
   pub text : List ℕ
   pub canonical : Canonical d text
   pub whole : Adds text old new
 
-abbrev pub RefusesWriting : CanonError → Data → Tray → Tray → Type 0
+abbrev pub RefusesWriting : CanonError → Data → SinkState → SinkState → Type 0
 RefusesWriting Float d old new = (refused d ≡ Some Float) × (new ≡ old)
 RefusesWriting IntegerOutOfRange d old new = (refused d ≡ Some IntegerOutOfRange) × (new ≡ old)
-RefusesWriting SinkFault d old new = PutsFront d old new × Rose old.faults new.faults
-RefusesWriting WantOfMemory d old new = (new ≡ old) ⊎ PutsFront d old new
+RefusesWriting SinkFault d old new = PutsPrefix d old new × Increased old.faults new.faults
+RefusesWriting WantOfMemory d old new = (new ≡ old) ⊎ PutsPrefix d old new
 RefusesWriting e d old new = ⊥
 
 -- the text was written; or nothing, if a number is refused; or a prefix, if the sink failed or memory ran out
-abbrev pub WritesText : {X : Type 0} → Result X CanonError → Data → Tray → Tray → Type 0
+abbrev pub WritesText : {X : Type 0} → Result X CanonError → Data → SinkState → SinkState → Type 0
 WritesText (Ok x) d old new = PutsText d old new
 WritesText (Err e) d old new = RefusesWriting e d old new
 

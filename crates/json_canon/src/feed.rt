@@ -19,7 +19,7 @@ pub(crate) fn feed<K: Sink>(
     sink: &mut K,
     value: &Value,
 ) -> Result<(), CanonError>
-    ensures fed { Fed (spelled (view value.now)) result (stage_of formatter.old)
+    ensures accepted { Fed (spelled (view value.now)) result (stage_of formatter.old)
         (stage_of formatter.new) (K.state sink.old) (K.state sink.new) }
     ensures count { (K.state sink.old).faults ≤ (K.state sink.new).faults }
 {
@@ -57,7 +57,7 @@ fn feed_items<K: Sink>(
     sink: &mut K,
     items: &Vec<Value>,
 ) -> Result<(), CanonError>
-    ensures fed { Fed (spelled (array (items_view items.now.items))) result (stage_of formatter.old)
+    ensures accepted { Fed (spelled (array (items_view items.now.items))) result (stage_of formatter.old)
         (stage_of formatter.new) (K.state sink.old) (K.state sink.new) }
     ensures count { (K.state sink.old).faults ≤ (K.state sink.new).faults }
 {
@@ -75,7 +75,7 @@ fn feed_item<K: Sink>(
     sink: &mut K,
     item: &Value,
 ) -> Result<(), CanonError>
-    ensures fed { Fed (begin_array_value ∷ (spelled (view item.now) ++ end_array_value ∷ [])) result
+    ensures accepted { Fed (begin_array_value ∷ (spelled (view item.now) ++ end_array_value ∷ [])) result
         (stage_of formatter.old) (stage_of formatter.new) (K.state sink.old) (K.state sink.new) }
     ensures count { (K.state sink.old).faults ≤ (K.state sink.new).faults }
 {
@@ -91,7 +91,7 @@ fn feed_members<K: Sink>(
     sink: &mut K,
     members: &Map<String, Value>,
 ) -> Result<(), CanonError>
-    ensures fed { Fed (spelled (object (members_view members.now.entries))) result
+    ensures accepted { Fed (spelled (object (members_view members.now.entries))) result
         (stage_of formatter.old) (stage_of formatter.new) (K.state sink.old) (K.state sink.new) }
     ensures count { (K.state sink.old).faults ≤ (K.state sink.new).faults }
 {
@@ -110,7 +110,7 @@ fn feed_member<K: Sink>(
     sink: &mut K,
     member: &Value,
 ) -> Result<(), CanonError>
-    ensures fed { Fed (begin_object_value ∷ (spelled (view member.now) ++ end_object_value ∷ []))
+    ensures accepted { Fed (begin_object_value ∷ (spelled (view member.now) ++ end_object_value ∷ []))
         result (stage_of formatter.old) (stage_of formatter.new) (K.state sink.old)
         (K.state sink.new) }
     ensures count { (K.state sink.old).faults ≤ (K.state sink.new).faults }
@@ -126,7 +126,7 @@ fn feed_name<K: Sink>(
     sink: &mut K,
     name: &str,
 ) -> Result<(), CanonError>
-    ensures fed { Fed (begin_object_key ∷ write_string name.now ∷ end_object_key ∷ []) result
+    ensures accepted { Fed (begin_object_key ∷ write_string name.now ∷ end_object_key ∷ []) result
         (stage_of formatter.old) (stage_of formatter.new) (K.state sink.old) (K.state sink.new) }
     ensures count { (K.state sink.old).faults ≤ (K.state sink.new).faults }
 {
@@ -141,7 +141,7 @@ fn feed_number<K: Sink>(
     sink: &mut K,
     whole: &Number,
 ) -> Result<(), CanonError>
-    ensures fed { Fed (spelled (number (number_view whole.now))) result (stage_of formatter.old)
+    ensures accepted { Fed (spelled (number (number_view whole.now))) result (stage_of formatter.old)
         (stage_of formatter.new) (K.state sink.old) (K.state sink.new) }
     ensures count { (K.state sink.old).faults ≤ (K.state sink.new).faults }
 {

@@ -1,6 +1,6 @@
 -- Turns and their results, over plain drafts.
 use Rattle.std.proofs.Common.{◌≡◌, ℕ, List, [], ◌∷◌, Bool, true, if◌then◌else◌, Option, Some, None, Result, Ok, Err, refl, sym, ap, subst, ◌∙◌, inl, inr}
-use Rattle.json_values.specs.Tray.{Tray, Adds, AddsFront}
+use Rattle.json_values.specs.SinkState.{SinkState, Adds, AddsPrefix}
 use Rattle.json_values.proofs.Sinks.{adds_none}
 use Rattle.json_events.specs.declared.error.CanonError.{CanonError}
 use Rattle.json_events.specs.declared.error.CanonError.TheVariants.{NotWellNested, DuplicateKey}
@@ -17,13 +17,13 @@ use Rattle.std.specs.Ordering.{nat_cmp, is_eq}
 use Rattle.json_events.specs.Events.{Event}
 use Rattle.json_events.specs.Turns.{Made, Barred, Breaks, Tries, Turns, Ends, Taken, BrokenOff, Answers, kept, out_of, Closes}
 
-pub adds_nothing : (tray : Tray) → Adds [] tray tray
-adds_nothing tray = adds_none tray tray refl
+pub adds_nothing : (sink : SinkState) → Adds [] sink sink
+adds_nothing sink = adds_none sink sink refl
 
-pub front_none : (out : List ℕ) (before after : Tray) → after.taken ≡ before.taken → AddsFront out before after
+pub front_none : (out : List ℕ) (before after : SinkState) → after.taken ≡ before.taken → AddsPrefix out before after
 front_none out before after same = record { front = []; left = out; split = refl; added = adds_none before after same }
 
-pub tried : {X : Type 0} (r : Result X CanonError) (t u : Turn) (old new : Draft) (before after : Tray) → t ≡ u → Tries u r new before after → Turns t r old new before after
+pub tried : {X : Type 0} (r : Result X CanonError) (t u : Turn) (old new : Draft) (before after : SinkState) → t ≡ u → Tries u r new before after → Turns t r old new before after
 tried (Ok x) t u old new before after is made = record { out = made.out; is = is ∙ made.is; added = made.added }
 tried (Err e) t u old new before after is broken = inr (subst (λ v. Breaks (out_of v) e before after) (sym is) broken)
 
@@ -31,41 +31,41 @@ pub at_spot : (b : Bool) (turn : Turn) → b ≡ true → (if b then turn else r
 at_spot b turn is = ap (λ x. if x then turn else refused NotWellNested) is
 
 -- an event that writes nothing out
-pub ended : (x : Event) (r : Result (Unit {0}) CanonError) (d new : Draft) (tray : Tray) → Ends (act x d) r d new → Turns (act x d) r d new tray tray
-ended x (Ok u) d new tray is = record { out = []; is = is; added = adds_nothing tray }
-ended x (Err e) d new tray (inl bar) = inl (record { is = bar.0; same = bar.1; added = adds_nothing tray })
-ended x (Err e) d new tray (inr want) = inr (inr (record { is = want; front = front_none (out_of (act x d)) tray tray refl }))
+pub ended : (x : Event) (r : Result (Unit {0}) CanonError) (d new : Draft) (sink : SinkState) → Ends (act x d) r d new → Turns (act x d) r d new sink sink
+ended x (Ok u) d new sink is = record { out = []; is = is; added = adds_nothing sink }
+ended x (Err e) d new sink (inl bar) = inl (record { is = bar.0; same = bar.1; added = adds_nothing sink })
+ended x (Err e) d new sink (inr want) = inr (inr (record { is = want; front = front_none (out_of (act x d)) sink sink refl }))
 
 out_turned : (t : Turn) (d : Draft) → (carried_out t d).out ≡ out_of t
 out_turned (refused e) d = refl
 out_turned (moves new out) d = refl
 
-made_taken : (x : Event) (d new : Draft) (before after : Tray) (u : Unit {0}) → Made (act x d) new before after → Taken x (Ok u) (record { refusal = None; draft = d }) (record { refusal = None; draft = new }) before after
+made_taken : (x : Event) (d new : Draft) (before after : SinkState) (u : Unit {0}) → Made (act x d) new before after → Taken x (Ok u) (record { refusal = None; draft = d }) (record { refusal = None; draft = new }) before after
 made_taken x d new before after u made = record {
   stage = ap (λ t. (carried_out t d).stage) (sym made.is);
   added = subst (λ out. Adds out before after) (sym (ap (λ t. (carried_out t d).out) made.is)) made.added;
   answers = refl;
 }
 
-barred_taken : (x : Event) (e : CanonError) (d new : Draft) (before after : Tray) → Barred (act x d) e d new before after → Taken x (Err e) (record { refusal = None; draft = d }) (record { refusal = Some e; draft = new }) before after
+barred_taken : (x : Event) (e : CanonError) (d new : Draft) (before after : SinkState) → Barred (act x d) e d new before after → Taken x (Err e) (record { refusal = None; draft = d }) (record { refusal = Some e; draft = new }) before after
 barred_taken x e d new before after bar = record {
   stage = ap (λ n. record { refusal = Some e; draft = n }) bar.same ∙ ap (λ t. (carried_out t d).stage) (sym bar.is);
   added = subst (λ out. Adds out before after) (sym (ap (λ t. (carried_out t d).out) bar.is)) bar.added;
   answers = refl;
 }
 
-broken : (x : Event) (e : CanonError) (d new : Draft) (before after : Tray) → AddsFront (out_of (act x d)) before after → BrokenOff x e (Err e) (record { refusal = None; draft = d }) (record { refusal = Some e; draft = new }) before after
+broken : (x : Event) (e : CanonError) (d new : Draft) (before after : SinkState) → AddsPrefix (out_of (act x d)) before after → BrokenOff x e (Err e) (record { refusal = None; draft = d }) (record { refusal = Some e; draft = new }) before after
 broken x e d new before after front = record {
   going = refl;
   keeps = refl;
   answers = refl;
-  front = subst (λ out. AddsFront out before after) (sym (out_turned (act x d) d)) front;
+  front = subst (λ out. AddsPrefix out before after) (sym (out_turned (act x d) d)) front;
 }
 
-broken_as : (x : Event) (e c : CanonError) (d new : Draft) (before after : Tray) → e ≡ c → AddsFront (out_of (act x d)) before after → BrokenOff x c (Err e) (record { refusal = None; draft = d }) (record { refusal = Some e; draft = new }) before after
+broken_as : (x : Event) (e c : CanonError) (d new : Draft) (before after : SinkState) → e ≡ c → AddsPrefix (out_of (act x d)) before after → BrokenOff x c (Err e) (record { refusal = None; draft = d }) (record { refusal = Some e; draft = new }) before after
 broken_as x e c d new before after is front = subst (λ k. BrokenOff x k (Err e) (record { refusal = None; draft = d }) (record { refusal = Some e; draft = new }) before after) is (broken x e d new before after front)
 
-pub answered : (x : Event) (r : Result (Unit {0}) CanonError) (d new : Draft) (before after : Tray) → Turns (act x d) r d new before after → Answers x r (record { refusal = None; draft = d }) (record { refusal = kept r; draft = new }) before after
+pub answered : (x : Event) (r : Result (Unit {0}) CanonError) (d new : Draft) (before after : SinkState) → Turns (act x d) r d new before after → Answers x r (record { refusal = None; draft = d }) (record { refusal = kept r; draft = new }) before after
 answered x (Ok u) d new before after made = inl (made_taken x d new before after u made)
 answered x (Err e) d new before after (inl bar) = inl (barred_taken x e d new before after bar)
 answered x (Err e) d new before after (inr (inl faulted)) = inr (inl (broken_as x e _ d new before after faulted.is faulted.front, faulted.rose))
@@ -94,12 +94,12 @@ duplicate d m here key has =
     (ap (λ k. list_any (λ p. is_eq (slice_cmp nat_cmp k p.sorting_key)) d.inner.members) (sym key) ∙ has)
 
 -- a formatter with a refusal returns it, and nothing is written
-pub refused_again : (x : Event) (e : CanonError) (d : Draft) (tray : Tray) → Answers x (Err e) (record { refusal = Some e; draft = d }) (record { refusal = Some e; draft = d }) tray tray
-refused_again x e d tray = inl (record { stage = refl; added = adds_nothing tray; answers = refl })
+pub refused_again : (x : Event) (e : CanonError) (d : Draft) (sink : SinkState) → Answers x (Err e) (record { refusal = Some e; draft = d }) (record { refusal = Some e; draft = d }) sink sink
+refused_again x e d sink = inl (record { stage = refl; added = adds_nothing sink; answers = refl })
 
-pub answered_from : (x : Event) (r : Result (Unit {0}) CanonError) (o : Option CanonError) (d new : Draft) (before after : Tray) → o ≡ None → Turns (act x d) r d new before after
+pub answered_from : (x : Event) (r : Result (Unit {0}) CanonError) (o : Option CanonError) (d new : Draft) (before after : SinkState) → o ≡ None → Turns (act x d) r d new before after
     → Answers x r (record { refusal = o; draft = d }) (record { refusal = kept r; draft = new }) before after
 answered_from x r o d new before after going turns = subst (λ q. Answers x r (record { refusal = q; draft = d }) (record { refusal = kept r; draft = new }) before after) (sym going) (answered x r d new before after turns)
 
-pub refused_from : (x : Event) (e : CanonError) (o : Option CanonError) (d : Draft) (tray : Tray) → o ≡ Some e → Answers x (Err e) (record { refusal = o; draft = d }) (record { refusal = o; draft = d }) tray tray
-refused_from x e o d tray is = subst (λ q. Answers x (Err e) (record { refusal = q; draft = d }) (record { refusal = q; draft = d }) tray tray) (sym is) (refused_again x e d tray)
+pub refused_from : (x : Event) (e : CanonError) (o : Option CanonError) (d : Draft) (sink : SinkState) → o ≡ Some e → Answers x (Err e) (record { refusal = o; draft = d }) (record { refusal = o; draft = d }) sink sink
+refused_from x e o d sink is = subst (λ q. Answers x (Err e) (record { refusal = q; draft = d }) (record { refusal = q; draft = d }) sink sink) (sym is) (refused_again x e d sink)

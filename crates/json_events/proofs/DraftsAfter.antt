@@ -4,7 +4,7 @@ use Rattle.json_events.specs.Canonical.{Canonical}
 use Rattle.json_events.specs.Drafts.{run, fresh, step, at}
 use Rattle.json_events.specs.Events.{finish}
 use Rattle.json_events.specs.Formatters.{stage_of}
-use Rattle.json_events.specs.Laws.{EventsWrite, FrontGoesOut, HoldsFirst, HoldsNext}
+use Rattle.json_events.specs.Laws.{EventsWrite, WritesPrefix, HoldsFirst, HoldsNext}
 use Rattle.json_events.specs.Spelling.{spelled}
 use Rattle.json_events.specs.declared.spot.Spot.TheVariants.{Whole, Finished}
 use Rattle.json_events.proofs.Unique.{unique}
@@ -34,7 +34,7 @@ holds_next f g out events x r before after holds taken =
       taken.answers,
     )
 
-pub front_goes_out : FrontGoesOut
+pub front_goes_out : WritesPrefix
 front_goes_out xs ys v t so canonical =
     let written = events_write v so.value so.plain in
     let all = ys ++ finish ∷ [] in

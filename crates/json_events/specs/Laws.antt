@@ -16,7 +16,7 @@ use Rattle.json_events.specs.Values.{IsValue}
 use Rattle.json_events.specs.WellNested.{first_bad}
 use Rattle.json_events.specs.declared.error.CanonError.{CanonError}
 use Rattle.json_events.specs.declared.formatter.JcsFormatter.{JcsFormatter}
-use Rattle.json_values.specs.Tray.{Tray, Adds}
+use Rattle.json_values.specs.SinkState.{SinkState, Adds}
 
 -- a value has at most one text
 abbrev pub OneText : Type 0
@@ -50,7 +50,7 @@ HoldsFirst = (f : JcsFormatter) → stage_of f ≡ fresh → Holds f [] []
 -- returns the first refusal
 abbrev pub HoldsNext : Type 0
 HoldsNext = (f g : JcsFormatter) (out : List ℕ) (events : List Event) (x : Event)
-    (r : Result (Unit {0}) CanonError) (before after : Tray)
+    (r : Result (Unit {0}) CanonError) (before after : SinkState)
     → Holds f out events → Taken x r (stage_of f) (stage_of g) before after
     → (more : List ℕ) × Holds g (out ++ more) (events ++ x ∷ []) × Adds more before after
     × (r ≡ answer (stage_of g).refusal)
@@ -78,8 +78,8 @@ FinishedSpells = (xs : List Event) → AreTexts xs → (run (xs ++ finish ∷ []
     → (v : Data) × ValueOf xs v
 
 -- at each moment a prefix of the text of the value that the events continue to was written out
-abbrev pub FrontGoesOut : Type 0
-FrontGoesOut = (xs ys : List Event) (v : Data) (t : List ℕ) → ValueOf (xs ++ ys) v → Canonical v t
+abbrev pub WritesPrefix : Type 0
+WritesPrefix = (xs ys : List Event) (v : Data) (t : List ℕ) → ValueOf (xs ++ ys) v → Canonical v t
     → (rest : List ℕ) × (t ≡ (run xs fresh).out ++ rest)
 
 -- after accepted events the text so far was written out, and the current member has its text so far

@@ -4,7 +4,7 @@ pub use Rattle.json_values.specs.Counts
 pub use Rattle.json_values.specs.JsonText
 pub use Rattle.json_values.specs.Places
 pub use Rattle.json_values.specs.Sinks
-pub use Rattle.json_values.specs.Tray
+pub use Rattle.json_values.specs.SinkState
 pub mod Canonical
 pub mod Constants
 pub mod Drafts

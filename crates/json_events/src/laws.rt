@@ -4,7 +4,7 @@ ghost use Rattle.std.specs.Cmp.{IsTotalOrder};
 ghost use Rattle.std.specs.Cmp.Lexicographic.{slice_cmp};
 ghost use Rattle.std.specs.Ordering.{nat_cmp};
 ghost use Rattle.std.specs.declared.cmp.Ordering.TheVariants.{Less, Greater};
-ghost use Rattle.json_events.specs.Laws.{OneText, HasText, EventsWrite, FrontGoesOut, HoldsFirst};
+ghost use Rattle.json_events.specs.Laws.{OneText, HasText, EventsWrite, WritesPrefix, HoldsFirst};
 ghost use Rattle.json_events.specs.Laws.{HoldsNext, FinishedSpells, FirstBad, RefusalStays};
 ghost use Rattle.json_events.specs.Laws.{TextsSoFar, TiesEqualNames, dalet, grin};
 ghost use Rattle.json_events.specs.Units.{by_units};
@@ -28,7 +28,7 @@ pub fn order_of_names()
 /// member that is being written has the text of its events. A formatter holds the stage of the events so far.
 pub fn events_write()
     ensures values { EventsWrite }
-    ensures front { FrontGoesOut }
+    ensures prefix { WritesPrefix }
     ensures spells { FinishedSpells }
     ensures so_far { TextsSoFar }
     ensures first { HoldsFirst }

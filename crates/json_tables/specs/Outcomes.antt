@@ -13,9 +13,9 @@ Refuses Ambiguous read = ⊥
 Refuses WantOfMemory read = ⊤
 
 -- the value that was read, or its refusal
-abbrev pub Gives : {X : Type 0} → Result X ReadError → Option X → Type 0
-Gives (Ok x) read = read ≡ Some x
-Gives (Err e) read = Refuses e read
+abbrev pub ReadsTo : {X : Type 0} → Result X ReadError → Option X → Type 0
+ReadsTo (Ok x) read = read ≡ Some x
+ReadsTo (Err e) read = Refuses e read
 
 -- `Float` if and only if the value contains a float, otherwise `Shape` if and only if f does not match it, or out
 -- of memory

@@ -3,7 +3,7 @@ ghost use Rattle.std.specs.Prelude.{◌≡◌, IfOk};
 ghost use Rattle.serde_json.specs.View.{view};
 ghost use Rattle.base64.specs.Engines.{standard};
 ghost use Rattle.base64.specs.GeneralPurpose.{decoded_of};
-ghost use Rattle.json_tables.specs.Outcomes.{Gives};
+ghost use Rattle.json_tables.specs.Outcomes.{ReadsTo};
 ghost use Rattle.json_tables.specs.Member.{required, present};
 ghost use Rattle.json_tables.specs.Bytes.{bytes_of, base64_of};
 
@@ -39,7 +39,7 @@ impl Member for Blob {
 
 /// Reads a member that must be present: a string in padded standard base64 (RFC 4648, 4).
 pub fn required_base64(alloc: Global, value: &Value, name: &str) -> Result<Blob, ReadError>
-    ensures { Gives result (required base64_of name.now (view value.now)) }
+    ensures { ReadsTo result (required base64_of name.now (view value.now)) }
 {
     let Some(Value::String(text)) = value.get(name) else {
         return Err(ReadError::Shape);

@@ -1,5 +1,5 @@
 ghost use Rattle.serde_json.specs.View.{view, items_view};
-ghost use Rattle.json_tables.specs.Outcomes.{Gives};
+ghost use Rattle.json_tables.specs.Outcomes.{ReadsTo};
 ghost use Rattle.json_tables.specs.Reading.{list_of, items_by, pair_of, two_by};
 ghost use Rattle.json_tables.specs.Member.{present};
 
@@ -30,7 +30,7 @@ impl<T: Reads + Drop> Member for List<T> {
 }
 
 fn read_items<T: Reads + Drop>(alloc: Global, items: &[Value]) -> Result<List<T>, ReadError>
-    ensures { Gives result (items_by T.reading (items_view items.now)) }
+    ensures { ReadsTo result (items_by T.reading (items_view items.now)) }
 {
     let mut list = List::new(alloc);
     for item in items {
@@ -54,7 +54,7 @@ fn read_two<T: Reads + Drop, U: Reads + Drop>(
     alloc: Global,
     items: &[Value],
 ) -> Result<(T, U), ReadError>
-    ensures { Gives result (two_by T.reading U.reading (items_view items.now)) }
+    ensures { ReadsTo result (two_by T.reading U.reading (items_view items.now)) }
 {
     let [first, second, rest @ ..] = items else {
         return Err(ReadError::Shape);

@@ -1,6 +1,6 @@
 ghost use Rattle.std.specs.FinMap.{empty};
 ghost use Rattle.serde_json.specs.View.{view, members_view};
-ghost use Rattle.json_tables.specs.Outcomes.{Gives};
+ghost use Rattle.json_tables.specs.Outcomes.{ReadsTo};
 ghost use Rattle.json_tables.specs.Reading.{map_of, members_by};
 ghost use Rattle.json_tables.specs.Member.{present};
 
@@ -34,7 +34,7 @@ fn read_members<V: Reads + Drop>(
     alloc: Global,
     members: &Map<String, Value>,
 ) -> Result<TextMap<V>, ReadError>
-    ensures { Gives result (members_by V.reading empty (members_view members.now.entries)) }
+    ensures { ReadsTo result (members_by V.reading empty (members_view members.now.entries)) }
 {
     let mut found = TextMap::new(alloc);
     for (name, member) in members.iter() {

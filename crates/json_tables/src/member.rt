@@ -1,7 +1,7 @@
 ghost use Rattle.std.specs.Prelude.{◌≡◌, Option, IfOk, Some, option_map};
 ghost use Rattle.serde_json.specs.Data.{Data};
 ghost use Rattle.serde_json.specs.View.{view};
-ghost use Rattle.json_tables.specs.Outcomes.{Gives};
+ghost use Rattle.json_tables.specs.Outcomes.{ReadsTo};
 ghost use Rattle.json_tables.specs.Member.{required, optional, unless_null, present, or_null};
 
 use crate::error::ReadError;
@@ -17,7 +17,7 @@ pub trait Member: Sized {
 
     /// Returns `Shape` if and only if the member does not match.
     fn read_member(alloc: Global, member: Option<&Value>) -> Result<Self, ReadError>
-        ensures { Gives result (found (option_map (λ v. view v.now) member.entry)) };
+        ensures { ReadsTo result (found (option_map (λ v. view v.now) member.entry)) };
 }
 
 impl<T: Reads + Drop> Member for Option<T> {
@@ -45,7 +45,7 @@ impl Member for Json {
 
 /// Reads a value that must be present.
 pub fn present<T: Reads + Drop>(alloc: Global, member: Option<&Value>) -> Result<T, ReadError>
-    ensures { Gives result (present T.reading (option_map (λ v. view v.now) member.entry)) }
+    ensures { ReadsTo result (present T.reading (option_map (λ v. view v.now) member.entry)) }
 {
     match member {
         Some(member) => T::read_value(alloc, member),
@@ -65,7 +65,7 @@ pub fn or_null(member: Option<&Value>) -> Result<Json, AllocError>
 
 /// Reads a member that must be present.
 pub fn required<T: Reads + Drop>(alloc: Global, value: &Value, name: &str) -> Result<T, ReadError>
-    ensures { Gives result (required T.reading name.now (view value.now)) }
+    ensures { ReadsTo result (required T.reading name.now (view value.now)) }
 {
     present(alloc, value.get(name))
 }
@@ -76,7 +76,7 @@ pub fn optional<T: Reads + Drop>(
     value: &Value,
     name: &str,
 ) -> Result<Option<T>, ReadError>
-    ensures { Gives result (optional T.reading name.now (view value.now)) }
+    ensures { ReadsTo result (optional T.reading name.now (view value.now)) }
 {
     Member::read_member(alloc, value.get(name))
 }

@@ -2,7 +2,7 @@ ghost use Rattle.std.specs.Prelude.{◌≡◌, map};
 ghost use Rattle.std.specs.List.{list_any};
 ghost use Rattle.std.specs.Str.{bytes_eq};
 ghost use Rattle.serde_json.specs.View.{view, members_view};
-ghost use Rattle.json_tables.specs.Outcomes.{Gives};
+ghost use Rattle.json_tables.specs.Outcomes.{ReadsTo};
 ghost use Rattle.json_tables.specs.Objects.{an_object, only, names_within};
 
 use crate::error::ReadError;
@@ -10,7 +10,7 @@ use serde_json::{Map, Value};
 
 /// Accepts an object with any members.
 pub fn an_object(value: &Value) -> Result<(), ReadError>
-    ensures { Gives result (an_object (view value.now)) }
+    ensures { ReadsTo result (an_object (view value.now)) }
 {
     if value.is_object() {
         Ok(())
@@ -21,7 +21,7 @@ pub fn an_object(value: &Value) -> Result<(), ReadError>
 
 /// Accepts an object with no other members than these.
 pub fn only(value: &Value, names: &[&str]) -> Result<(), ReadError>
-    ensures { Gives result (only (map (λ name. name.now) names.now) (view value.now)) }
+    ensures { ReadsTo result (only (map (λ name. name.now) names.now) (view value.now)) }
 {
     match value.as_object() {
         Some(members) if are_within(members, names) => Ok(()),

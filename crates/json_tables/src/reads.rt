@@ -1,7 +1,7 @@
 ghost use Rattle.std.specs.Prelude.{Option};
 ghost use Rattle.serde_json.specs.Data.{Data};
 ghost use Rattle.serde_json.specs.View.{view};
-ghost use Rattle.json_tables.specs.Outcomes.{Gives};
+ghost use Rattle.json_tables.specs.Outcomes.{ReadsTo};
 
 use crate::error::ReadError;
 use serde_json::Value;
@@ -14,5 +14,5 @@ pub trait Reads: Sized {
 
     /// Returns `Shape` if and only if the value does not match.
     fn read_value(alloc: Global, value: &Value) -> Result<Self, ReadError>
-        ensures { Gives result (reading (view value.now)) };
+        ensures { ReadsTo result (reading (view value.now)) };
 }

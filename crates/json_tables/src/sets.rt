@@ -1,6 +1,6 @@
 ghost use Rattle.std.specs.FinMap.{empty};
 ghost use Rattle.serde_json.specs.View.{members_view};
-ghost use Rattle.json_tables.specs.Outcomes.{Gives};
+ghost use Rattle.json_tables.specs.Outcomes.{ReadsTo};
 ghost use Rattle.json_tables.specs.Reading.{members_by};
 ghost use Rattle.json_tables.specs.Objects.{an_object, set_of};
 
@@ -24,7 +24,7 @@ impl Reads for TextSet {
 }
 
 fn read_names(alloc: Global, members: &Map<String, Value>) -> Result<TextSet, ReadError>
-    ensures { Gives result (members_by an_object empty (members_view members.now.entries)) }
+    ensures { ReadsTo result (members_by an_object empty (members_view members.now.entries)) }
 {
     let mut found = TextSet::new(alloc);
     for (name, member) in members.iter() {

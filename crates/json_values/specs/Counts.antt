@@ -2,13 +2,13 @@
 use Rattle.std.specs.Prelude.{◌≡◌, ℕ, ◌+◌, ◌-◌, ◌^◌, ◌≤◌, min}
 
 -- the next count, saturating at `u64::MAX`
-abbrev pub raised : ℕ → ℕ
-raised n = min (n + 1) (2 ^ 64 - 1)
+abbrev pub incremented : ℕ → ℕ
+incremented n = min (n + 1) (2 ^ 64 - 1)
 
 -- the count increased, or is saturated
-abbrev pub Rose : ℕ → ℕ → Type 0
-Rose before after = raised before ≤ after
+abbrev pub Increased : ℕ → ℕ → Type 0
+Increased before after = incremented before ≤ after
 
 -- the count is unchanged
-abbrev pub Stays : ℕ → ℕ → Type 0
-Stays before after = after ≡ before
+abbrev pub Unchanged : ℕ → ℕ → Type 0
+Unchanged before after = after ≡ before

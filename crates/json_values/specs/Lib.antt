@@ -6,5 +6,5 @@ pub mod JsonText
 pub mod Places
 pub mod Refusals
 pub mod Sinks
-pub mod Tray
+pub mod SinkState
 pub mod Writing

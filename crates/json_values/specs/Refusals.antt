@@ -2,13 +2,13 @@
 use Rattle.std.specs.Prelude.{◌≡◌, Bool, MatchBool, Result, Ok, Err}
 
 -- the result is this one, or out of memory
-abbrev pub Says : {A E : Type 0} → (E → Bool) → Result A E → Result A E → Type 0
-Says is_memory (Ok a) said = said ≡ Ok a
-Says is_memory (Err e) said = MatchBool (is_memory e) (Unit {0}) (said ≡ Err e)
+abbrev pub Matches : {A E : Type 0} → (E → Bool) → Result A E → Result A E → Type 0
+Matches is_memory (Ok a) said = said ≡ Ok a
+Matches is_memory (Err e) said = MatchBool (is_memory e) (Unit {0}) (said ≡ Err e)
 
 -- the error is this one, or out of memory
-abbrev pub SaysError : {E : Type 0} → (E → Bool) → E → E → Type 0
-SaysError is_memory e said = MatchBool (is_memory e) (Unit {0}) (e ≡ said)
+abbrev pub MatchesError : {E : Type 0} → (E → Bool) → E → E → Type 0
+MatchesError is_memory e said = MatchBool (is_memory e) (Unit {0}) (e ≡ said)
 
 infixl 10 ◌>>=◌
 -- the result of the next step, unless the step before it failed

@@ -2,10 +2,10 @@
 use Rattle.std.specs.Prelude.{ℕ, List, Some}
 use Rattle.json_values.specs.declared.memory_sink.MemorySink.{MemorySink}
 use Rattle.json_values.specs.declared.plain_sink.PlainSink.{PlainSink}
-use Rattle.json_values.specs.Tray.{Tray}
+use Rattle.json_values.specs.SinkState.{SinkState}
 
-abbrev pub memory_tray : MemorySink → Tray
-memory_tray s = record { taken = Some s.bytes.items; faults = s.faults }
+abbrev pub memory_sink_state : MemorySink → SinkState
+memory_sink_state s = record { taken = Some s.bytes.items; faults = s.faults }
 
 -- the number of calls so far, saturating at `u64::MAX`
 abbrev pub calls_of : MemorySink → ℕ
@@ -15,5 +15,5 @@ calls_of s = s.calls
 abbrev pub failing_of : MemorySink → List ℕ
 failing_of s = s.failing
 
-abbrev pub plain_tray : PlainSink → Tray
-plain_tray s = record { taken = Some s.bytes.items; faults = 0 }
+abbrev pub plain_sink_state : PlainSink → SinkState
+plain_sink_state s = record { taken = Some s.bytes.items; faults = 0 }

@@ -11,11 +11,11 @@ pub struct PlainSink {
 }
 
 impl PlainSink {
-    ghost use Rattle.json_values.specs.Sinks.{plain_tray};
+    ghost use Rattle.json_values.specs.Sinks.{plain_sink_state};
 
     /// Creates an empty sink.
     pub fn new(alloc: Global) -> PlainSink
-        ensures { (plain_tray result).taken ≡ Some [] }
+        ensures { (plain_sink_state result).taken ≡ Some [] }
     {
         PlainSink {
             bytes: Vec::new(alloc),
@@ -24,23 +24,23 @@ impl PlainSink {
 
     /// Returns the bytes without copying them.
     pub fn into_blob(self) -> Blob
-        ensures { (plain_tray self).taken ≡ Some result }
+        ensures { (plain_sink_state self).taken ≡ Some result }
     {
         Blob::from_vec(self.bytes)
     }
 
     /// Returns the bytes so far.
     pub fn taken(&self) -> &[u8]
-        ensures { (plain_tray self.now).taken ≡ Some result.now }
+        ensures { (plain_sink_state self.now).taken ≡ Some result.now }
     {
         self.bytes.as_slice()
     }
 }
 
 impl Sink for PlainSink {
-    ghost use Rattle.json_values.specs.Sinks.{plain_tray};
+    ghost use Rattle.json_values.specs.Sinks.{plain_sink_state};
 
-    ghost state = { plain_tray };
+    ghost state = { plain_sink_state };
 
     fn put(&mut self, piece: &[u8]) -> Result<usize, SinkError> {
         match self.bytes.extend_from_slice(piece) {

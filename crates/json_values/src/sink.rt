@@ -1,7 +1,7 @@
 // Byte sinks.
 ghost use Rattle.std.specs.Prelude.{◌≡◌, ◌≤◌, ◌<◌, length, take, IfOk, OnOk, OnErr, IsErrOf};
-ghost use Rattle.json_values.specs.Counts.{Rose, Stays};
-ghost use Rattle.json_values.specs.Tray.{Tray, Adds, AddsFront, AddsPart};
+ghost use Rattle.json_values.specs.Counts.{Increased, Unchanged};
+ghost use Rattle.json_values.specs.SinkState.{SinkState, Adds, AddsPrefix, AddsProperPrefix};
 
 use crate::copied::Copied;
 use std::alloc::{AllocError, Global};
@@ -26,7 +26,7 @@ impl Copied for SinkError {
 /// Accepts bytes, piece by piece.
 pub trait Sink {
     /// The bytes that it holds, if it exposes them, and its fault count.
-    ghost state: { Self → Tray };
+    ghost state: { Self → SinkState };
 
     /// Accepts a prefix of the piece, at least one byte if the piece is not empty, and returns its length in bytes.
     /// Returns `Failed` if the destination refused: the fault count increases then, and is unchanged otherwise.
@@ -37,10 +37,10 @@ pub trait Sink {
         ensures taken { IfOk result (λ n. Adds (take n piece.now) (state self.old) (state self.new)) }
         ensures refused { OnErr result ((state self.new).taken ≡ (state self.old).taken) }
         ensures fault { IsErrOf result SinkError.Failed
-            → Rose (state self.old).faults (state self.new).faults }
-        ensures served { OnOk result (Stays (state self.old).faults (state self.new).faults) }
-        ensures wanting { IsErrOf result SinkError.WantOfMemory
-            → Stays (state self.old).faults (state self.new).faults };
+            → Increased (state self.old).faults (state self.new).faults }
+        ensures no_fault { OnOk result (Unchanged (state self.old).faults (state self.new).faults) }
+        ensures out_of_memory { IsErrOf result SinkError.WantOfMemory
+            → Unchanged (state self.old).faults (state self.new).faults };
 
     /// Returns the number of failures so far, saturating at `u64::MAX`.
     fn faults(&self) -> u64
@@ -52,13 +52,13 @@ pub trait Sink {
 pub fn put_all<S: Sink>(sink: &mut S, piece: &[u8]) -> Result<(), SinkError>
     ensures count { (S.state sink.old).faults ≤ (S.state sink.new).faults }
     ensures whole { OnOk result (Adds piece.now (S.state sink.old) (S.state sink.new)) }
-    ensures front { AddsFront piece.now (S.state sink.old) (S.state sink.new) }
-    ensures part { OnErr result (AddsPart piece.now (S.state sink.old) (S.state sink.new)) }
+    ensures prefix { AddsPrefix piece.now (S.state sink.old) (S.state sink.new) }
+    ensures part { OnErr result (AddsProperPrefix piece.now (S.state sink.old) (S.state sink.new)) }
     ensures fault { IsErrOf result SinkError.Failed
-        → Rose (S.state sink.old).faults (S.state sink.new).faults }
-    ensures served { OnOk result (Stays (S.state sink.old).faults (S.state sink.new).faults) }
-    ensures wanting { IsErrOf result SinkError.WantOfMemory
-        → Stays (S.state sink.old).faults (S.state sink.new).faults }
+        → Increased (S.state sink.old).faults (S.state sink.new).faults }
+    ensures no_fault { OnOk result (Unchanged (S.state sink.old).faults (S.state sink.new).faults) }
+    ensures out_of_memory { IsErrOf result SinkError.WantOfMemory
+        → Unchanged (S.state sink.old).faults (S.state sink.new).faults }
 {
     let mut at = 0;
     while at < piece.len() {

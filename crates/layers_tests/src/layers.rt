@@ -2,7 +2,7 @@
 use cosign_layers::{
     CertificateSignature, Constraint, Evidence, LayerKind, Offline, PullPolicy, SignatureLayer,
     SignedRow, TableJudge, TableVerifier, VerificationConstraint, Vouched, VouchedRow,
-    first_standing, log_texts_are_canonical, signed_text, stands,
+    first_satisfying, log_texts_are_canonical, satisfies_policy, signed_text,
 };
 use json_values::{Annotations, Blob, List, Text};
 use std::alloc::{AllocError, Global};
@@ -73,7 +73,7 @@ fn key_signs(alloc: Global, key: &[u8]) -> Result<bool, AllocError> {
     let layer = layer(alloc, None)?;
     let policy = policy(alloc, key)?;
     let verifier = verifier(alloc)?;
-    stands(alloc, &verifier, &policy, &layer)
+    satisfies_policy(alloc, &verifier, &policy, &layer)
 }
 
 fn certified(alloc: Global, key: &[u8]) -> Result<SignatureLayer, AllocError> {
@@ -104,7 +104,7 @@ fn second_stands(alloc: Global) -> Result<bool, AllocError> {
     layers.push(certified(alloc, b"k1")?)?;
     let policy = policy(alloc, b"k2")?;
     let verifier = verifier(alloc)?;
-    let place = first_standing(alloc, &verifier, &policy, layers.as_slice())?;
+    let place = first_satisfying(alloc, &verifier, &policy, layers.as_slice())?;
     Ok(place == Some(1))
 }
 

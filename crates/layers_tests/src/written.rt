@@ -2,7 +2,7 @@
 use crate::trusted::{SOURCE, log_keys, verifier};
 use cosign_layers::{
     CertSubjectUrlVerifier, Constraint, PullPolicy, SignatureLayer, TableJudge, Vouched,
-    VouchedRow, read_bundle_layer, stands,
+    VouchedRow, read_bundle_layer, satisfies_policy,
 };
 use json_values::{Annotations, Blob, List, Text};
 use std::alloc::{AllocError, Global};
@@ -81,7 +81,7 @@ fn layer(alloc: Global) -> Option<SignatureLayer> {
 fn stands_for(alloc: Global, layer: &SignatureLayer, url: &str) -> Result<bool, AllocError> {
     let policy = policy(alloc, url)?;
     let verifier = verifier(alloc)?;
-    stands(alloc, &verifier, &policy, layer)
+    satisfies_policy(alloc, &verifier, &policy, layer)
 }
 
 // Whether the layer is accepted, and stands for its workflow alone.

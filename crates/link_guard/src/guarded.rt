@@ -66,7 +66,7 @@ impl<T: Transport> Guarded<T> {
 
 impl<T: Transport> Transport for Guarded<T> {
     ghost use Rattle.std.specs.Prelude.{◌≡◌, ◌≤◌, [], IfOk, IsErrOf};
-    ghost use Rattle.json_values.specs.Counts.{Rose};
+    ghost use Rattle.json_values.specs.Counts.{Increased};
     ghost use Rattle.oci_transport.specs.Link.{Answers, AddsUnanswered, AddsAtMost, LeavesRest, Takes, Steady};
     ghost use Rattle.link_guard.specs.Guard.{KeepsTold};
     ghost use Rattle.link_guard.specs.State.{rules_of, state_of};
@@ -82,7 +82,7 @@ impl<T: Transport> Transport for Guarded<T> {
         ensures nothing { IsErrOf result LinkError.Failed
             → LeavesRest [] (state_of T.state self.old) (state_of T.state self.new) }
         ensures fault { IsErrOf result LinkError.Failed
-            → Rose (state_of T.state self.old).faults (state_of T.state self.new).faults }
+            → Increased (state_of T.state self.old).faults (state_of T.state self.new).faults }
         ensures memory { IsErrOf result LinkError.WantOfMemory
             → AddsAtMost request.now (state_of T.state self.old) (state_of T.state self.new) }
         ensures rules { rules_of self.new ≡ rules_of self.old }
@@ -133,7 +133,7 @@ impl<T: Transport> Transport for Guarded<T> {
         ensures count { (state_of T.state self.old).faults ≤ (state_of T.state self.new).faults }
         ensures taken { IfOk result (λ piece. Takes piece (state_of T.state self.old) (state_of T.state self.new)) }
         ensures fault { IsErrOf result LinkError.Failed
-            → Rose (state_of T.state self.old).faults (state_of T.state self.new).faults }
+            → Increased (state_of T.state self.old).faults (state_of T.state self.new).faults }
         ensures rules { rules_of self.new ≡ rules_of self.old }
     {
         if self.closed {

@@ -3,20 +3,20 @@ use Rattle.std.proofs.Common.{◌≡◌, ℕ, zero, suc, ◌≤◌, ◌<◌, Lis
 use Rattle.std.specs.Prelude.{Result, Ok, Err}
 use Rattle.std.specs.Result.{IsErr, IsErrAnd}
 use Rattle.pull_edge.proofs.Springs.{Consumes-then}
-use Rattle.pull_edge.specs.Source.{Spring, Takes}
+use Rattle.pull_edge.specs.Source.{SourceState, Takes}
 use Rattle.live_frames.specs.Frame.{is_line, most_bytes}
 use Rattle.live_frames.specs.Parts.{ReadsLine, IsTakenLine}
 use Rattle.live_frames.specs.declared.reading.FrameError.{FrameError}
 use Rattle.live_frames.specs.declared.reading.FrameError.TheVariants.{WantOfMemory}
 
 -- a line of at most one byte more than the limit, as far as it was taken
-pub record LineSoFar (line : List ℕ) (old new : Spring) : Type 0 where
+pub record LineSoFar (line : List ℕ) (old new : SourceState) : Type 0 where
   pub taken : Takes line old new
   pub inside : is_line line ≡ true
   pub count : new.faults ≡ old.faults
 
 -- these bytes
-pub record BytesSoFar (bytes : List ℕ) (old new : Spring) : Type 0 where
+pub record BytesSoFar (bytes : List ℕ) (old new : SourceState) : Type 0 where
   pub taken : Takes bytes old new
   pub count : new.faults ≡ old.faults
 
@@ -28,11 +28,11 @@ one_byte (x ∷ []) zero b one most some is = absurd (omega (arith, some))
 one_byte (x ∷ []) (suc zero) b one most some is = ap (λ y. y ∷ []) is
 one_byte (x ∷ []) (suc (suc n)) b one most some is = absurd (omega (arith, most))
 
-pub then_takes : (a b c : Spring) (xs ys : List ℕ) → Takes xs a b → Takes ys b c → Takes (xs ++ ys) a c
+pub then_takes : (a b c : SourceState) (xs ys : List ℕ) → Takes xs a b → Takes ys b c → Takes (xs ++ ys) a c
 then_takes a b c xs ys first second = Consumes-then a.left b.left c.left xs ys first second
 
 -- the line feed was read
-pub line_ends : (line room : List ℕ) (n : ℕ) (a b c : Spring) → LineSoFar line a b → length line ≤ most_bytes → Takes (take n room) b c → c.faults ≡ b.faults → take n room ≡ 10 ∷ [] → IsTakenLine line a c
+pub line_ends : (line room : List ℕ) (n : ℕ) (a b c : SourceState) → LineSoFar line a b → length line ≤ most_bytes → Takes (take n room) b c → c.faults ≡ b.faults → take n room ≡ 10 ∷ [] → IsTakenLine line a c
 line_ends line room n a b c so_far short front count is = record {
   taken = then_takes a b c line (10 ∷ []) so_far.taken (subst (λ xs. Takes xs b c) is front);
   inside = so_far.inside;
@@ -41,7 +41,7 @@ line_ends line room n a b c so_far short front count is = record {
 }
 
 -- memory ran out for a further byte
-pub line_wants : (most n : ℕ) (line room : List ℕ) (a b c : Spring) (r : Result (List ℕ) FrameError) → IsErr r → IsErrAnd r (λ e. e ≡ WantOfMemory)
+pub line_wants : (most n : ℕ) (line room : List ℕ) (a b c : SourceState) (r : Result (List ℕ) FrameError) → IsErr r → IsErrAnd r (λ e. e ≡ WantOfMemory)
     → LineSoFar line a b → Takes (take n room) b c → c.faults ≡ b.faults → ReadsLine most r a c
 line_wants most n line room a b c (Ok bytes) err is so_far front count = absurd (cc err)
 line_wants most n line room a b c (Err e) err is so_far front count =

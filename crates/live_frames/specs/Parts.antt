@@ -2,8 +2,8 @@
 use Rattle.std.specs.Prelude.{◌≡◌, ℕ, ◌≤◌, ◌<◌, true, List, [], length, Some, None, Result, Ok, Err, ⊤}
 use Rattle.std.specs.Io.KnownBytes.{IsAtEnd}
 use Rattle.serde_json.specs.Data.{Data}
-use Rattle.json_values.specs.Counts.{Rose, Stays}
-use Rattle.pull_edge.specs.Source.{Spring, Takes}
+use Rattle.json_values.specs.Counts.{Increased, Unchanged}
+use Rattle.pull_edge.specs.Source.{SourceState, Takes}
 use Rattle.live_frames.specs.Frame.{is_line, most_bytes, head_of, size_of}
 use Rattle.live_frames.specs.Reading.{size_at, lined, Stops}
 use Rattle.live_frames.specs.declared.reading.FrameError.{FrameError}
@@ -11,13 +11,13 @@ use Rattle.live_frames.specs.declared.reading.FrameError.TheVariants.{SourceFaul
 use Rattle.live_frames.specs.declared.reading.FrameError.TheVariants.{WantOfMemory}
 
 -- a line with its line feed
-pub record IsTakenLine (line : List ℕ) (old new : Spring) : Type 0 where
+pub record IsTakenLine (line : List ℕ) (old new : SourceState) : Type 0 where
   pub taken : Takes (lined line []) old new
   pub inside : is_line line ≡ true
   pub short : length line ≤ most_bytes
-  pub count : Stays old.faults new.faults
+  pub count : Unchanged old.faults new.faults
 
-abbrev pub ReadsLine : ℕ → Result (List ℕ) FrameError → Spring → Spring → Type 0
+abbrev pub ReadsLine : ℕ → Result (List ℕ) FrameError → SourceState → SourceState → Type 0
 ReadsLine most (Ok line) old new = IsTakenLine line old new
 ReadsLine most (Err e) old new = (text : List ℕ) × Takes text old new × Stops most e text old new
 
@@ -31,28 +31,28 @@ ReadsHead (Err NoFrame) line = size_at line ≡ None
 ReadsHead (Err WantOfMemory) line = ⊤
 
 -- why fewer than `count` bytes were read
-abbrev pub IsShort : ℕ → FrameError → List ℕ → Spring → Spring → Type 0
-IsShort n SourceFault part old new = Rose old.faults new.faults
-IsShort n Ended part old new = IsAtEnd new.left × (length part < n) × Stays old.faults new.faults
-IsShort n TooLong part old new = ⊥
-IsShort n NoFrame part old new = ⊥
-IsShort n WantOfMemory part old new = Stays old.faults new.faults
+abbrev pub ShortRead : ℕ → FrameError → List ℕ → SourceState → SourceState → Type 0
+ShortRead n SourceFault part old new = Increased old.faults new.faults
+ShortRead n Ended part old new = IsAtEnd new.left × (length part < n) × Unchanged old.faults new.faults
+ShortRead n TooLong part old new = ⊥
+ShortRead n NoFrame part old new = ⊥
+ShortRead n WantOfMemory part old new = Unchanged old.faults new.faults
 
 -- `count` bytes, or a prefix of them
-abbrev pub ReadsBytes : ℕ → Result (List ℕ) FrameError → Spring → Spring → Type 0
-ReadsBytes n (Ok bytes) old new = Takes bytes old new × (length bytes ≡ n) × Stays old.faults new.faults
-ReadsBytes n (Err e) old new = (part : List ℕ) × Takes part old new × IsShort n e part old new
+abbrev pub ReadsBytes : ℕ → Result (List ℕ) FrameError → SourceState → SourceState → Type 0
+ReadsBytes n (Ok bytes) old new = Takes bytes old new × (length bytes ≡ n) × Unchanged old.faults new.faults
+ReadsBytes n (Err e) old new = (part : List ℕ) × Takes part old new × ShortRead n e part old new
 
 -- why no further byte was read
-abbrev pub IsNone : FrameError → List ℕ → Spring → Spring → Type 0
-IsNone SourceFault part old new = Rose old.faults new.faults
-IsNone Ended part old new = IsAtEnd new.left × (part ≡ []) × Stays old.faults new.faults
+abbrev pub IsNone : FrameError → List ℕ → SourceState → SourceState → Type 0
+IsNone SourceFault part old new = Increased old.faults new.faults
+IsNone Ended part old new = IsAtEnd new.left × (part ≡ []) × Unchanged old.faults new.faults
 IsNone TooLong part old new = ⊥
 IsNone NoFrame part old new = ⊥
-IsNone WantOfMemory part old new = Stays old.faults new.faults
+IsNone WantOfMemory part old new = Unchanged old.faults new.faults
 
 -- at least one byte, and at most `most`, or some that are lost
-abbrev pub TakesUpTo : ℕ → Result (List ℕ) FrameError → Spring → Spring → Type 0
+abbrev pub TakesUpTo : ℕ → Result (List ℕ) FrameError → SourceState → SourceState → Type 0
 TakesUpTo most (Ok bytes) old new =
-    Takes bytes old new × (0 < length bytes) × (length bytes ≤ most) × Stays old.faults new.faults
+    Takes bytes old new × (0 < length bytes) × (length bytes ≤ most) × Unchanged old.faults new.faults
 TakesUpTo most (Err e) old new = (part : List ℕ) × Takes part old new × IsNone e part old new

@@ -1,9 +1,9 @@
 -- Reading a frame from a source.
 use Rattle.std.specs.Prelude.{◌≡◌, ℕ, ◌<◌, true, List, [], ◌∷◌, ◌++◌, length, Option, Some, None, Result, Ok, Err}
 use Rattle.std.specs.Io.KnownBytes.{IsAtEnd}
-use Rattle.json_values.specs.Counts.{Rose, Stays}
+use Rattle.json_values.specs.Counts.{Increased, Unchanged}
 use Rattle.json_tables.specs.Reading.{◌>>=◌}
-use Rattle.pull_edge.specs.Source.{Spring, Takes}
+use Rattle.pull_edge.specs.Source.{SourceState, Takes}
 use Rattle.live_frames.specs.Frame.{IsFrame, is_line, most_bytes, head_of, size_of}
 use Rattle.live_frames.specs.declared.frame.Frame.{Frame}
 use Rattle.live_frames.specs.declared.reading.FrameError.{FrameError}
@@ -34,15 +34,15 @@ pub data IsNoHead (text : List ℕ) : Type 0 where
   no_head : (line : List ℕ) → text ≡ lined line [] → is_line line ≡ true → size_at line ≡ None → IsNoHead text
 
 -- why what was taken is not a frame
-abbrev pub Stops : ℕ → FrameError → List ℕ → Spring → Spring → Type 0
-Stops most SourceFault text old new = Rose old.faults new.faults
-Stops most Ended text old new = IsAtEnd new.left × IsCut text × Stays old.faults new.faults
-Stops most TooLong text old new = IsLong most text × Stays old.faults new.faults
-Stops most NoFrame text old new = IsNoHead text × Stays old.faults new.faults
-Stops most WantOfMemory text old new = Stays old.faults new.faults
+abbrev pub Stops : ℕ → FrameError → List ℕ → SourceState → SourceState → Type 0
+Stops most SourceFault text old new = Increased old.faults new.faults
+Stops most Ended text old new = IsAtEnd new.left × IsCut text × Unchanged old.faults new.faults
+Stops most TooLong text old new = IsLong most text × Unchanged old.faults new.faults
+Stops most NoFrame text old new = IsNoHead text × Unchanged old.faults new.faults
+Stops most WantOfMemory text old new = Unchanged old.faults new.faults
 
 -- What was taken: a frame, or something else. The fault count increases if and only if the source failed.
-abbrev pub ReadsFrame : ℕ → Result Frame FrameError → Spring → Spring → Type 0
+abbrev pub ReadsFrame : ℕ → Result Frame FrameError → SourceState → SourceState → Type 0
 ReadsFrame most (Ok frame) old new =
-    (text : List ℕ) × Takes text old new × IsFrame most frame text × Stays old.faults new.faults
+    (text : List ℕ) × Takes text old new × IsFrame most frame text × Unchanged old.faults new.faults
 ReadsFrame most (Err e) old new = (text : List ℕ) × Takes text old new × Stops most e text old new

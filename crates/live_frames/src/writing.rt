@@ -1,8 +1,8 @@
 // Writes a frame to a sink.
 ghost use Rattle.std.specs.Prelude.{◌≡◌, ◌≤◌, false, IfOk, OnOk, OnErr, IsErrOf};
 ghost use Rattle.serde_json.specs.Written.{has_float};
-ghost use Rattle.json_values.specs.Counts.{Rose, Stays};
-ghost use Rattle.json_values.specs.Tray.{Adds, AddsFront, AddsPart};
+ghost use Rattle.json_values.specs.Counts.{Increased, Unchanged};
+ghost use Rattle.json_values.specs.SinkState.{Adds, AddsPrefix, AddsProperPrefix};
 ghost use Rattle.live_frames.specs.Writing.{frame_text};
 
 use json_values::{Blob, Json, Sink, SinkError, put_all};
@@ -18,12 +18,12 @@ pub fn write_frame<K: Sink>(
     requires plain { has_float head.now ≡ false }
     ensures count { (K.state sink.old).faults ≤ (K.state sink.new).faults }
     ensures whole { OnOk result (Adds (frame_text head.now bytes.now) (K.state sink.old) (K.state sink.new)) }
-    ensures front { AddsFront (frame_text head.now bytes.now) (K.state sink.old) (K.state sink.new) }
+    ensures prefix { AddsPrefix (frame_text head.now bytes.now) (K.state sink.old) (K.state sink.new) }
     ensures fault { IsErrOf result SinkError.Failed
-        → Rose (K.state sink.old).faults (K.state sink.new).faults }
-    ensures served { OnOk result (Stays (K.state sink.old).faults (K.state sink.new).faults) }
-    ensures wanting { IsErrOf result SinkError.WantOfMemory
-        → Stays (K.state sink.old).faults (K.state sink.new).faults }
+        → Increased (K.state sink.old).faults (K.state sink.new).faults }
+    ensures no_fault { OnOk result (Unchanged (K.state sink.old).faults (K.state sink.new).faults) }
+    ensures out_of_memory { IsErrOf result SinkError.WantOfMemory
+        → Unchanged (K.state sink.old).faults (K.state sink.new).faults }
 {
     let Ok(text) = frame_text(alloc, head, bytes) else {
         return Err(SinkError::WantOfMemory);

@@ -1,16 +1,16 @@
 -- Frames that are sent, one after another.
 use Rattle.std.proofs.Common.{◌≡◌, ℕ, Bool, List, [], ◌∷◌, ◌++◌, length, suc, ◌≤◌, append_assoc, refl, subst, sym, codes, arith}
-use Rattle.json_values.specs.Tray.{Tray, Adds}
+use Rattle.json_values.specs.SinkState.{SinkState, Adds}
 use Rattle.json_values.proofs.Sinks.{adds_more}
 use Rattle.oci_manifests.specs.declared.blob.ImageLayer.{ImageLayer}
 use Rattle.oci_descriptors.specs.declared.descriptor.OciDescriptor.{OciDescriptor}
 use Rattle.cosign_chain.specs.declared.image.VerifiedImage.{VerifiedImage}
 use Rattle.live_host.specs.Heads.{item_head}
 use Rattle.live_host.specs.Items.{Sent, WereTold, blobs_sent, config_sent, image_sent, index_sent, layers_sent, manifest_sent, pulled_sent}
-use Rattle.live_host.specs.Wire.{Wire, Tells}
+use Rattle.live_host.specs.Wire.{Wire, SendsFrame}
 
 -- a line followed by its bytes
-pub told_behind : (line bytes : List ℕ) (old between end : Tray) → Adds (line ++ 10 ∷ []) old between → Adds bytes between end → Adds (line ++ 10 ∷ bytes) old end
+pub told_behind : (line bytes : List ℕ) (old between end : SinkState) → Adds (line ++ 10 ∷ []) old between → Adds bytes between end → Adds (line ++ 10 ∷ bytes) old end
 told_behind line bytes old between end first second =
     subst (λ text. Adds text old end) (append_assoc line (10 ∷ []) bytes) (adds_more (line ++ 10 ∷ []) bytes old between end first second)
 
@@ -21,7 +21,7 @@ told_both (x ∷ xs) ys a b c first second = (first.0, first.1, told_both xs ys 
 -- a layer, followed by the others
 pub told_layer : (named more : List OciDescriptor) (rest others : List ImageLayer) (x : OciDescriptor) (layer : ImageLayer) (old between end : Wire)
     → named ≡ x ∷ more → rest ≡ layer ∷ others
-    → Tells (item_head (codes "blob") (codes "layer") layer.media_type x.digest (length layer.content)) layer.content old between → WereTold (layers_sent more others) between end
+    → SendsFrame (item_head (codes "blob") (codes "layer") layer.media_type x.digest (length layer.content)) layer.content old between → WereTold (layers_sent more others) between end
     → WereTold (layers_sent named rest) old end
 told_layer named more rest others x layer old between end named_is rest_is told after = rw (named_is, rest_is) (between, told, after)
 
@@ -43,8 +43,8 @@ pub one_less : (rest others : List ImageLayer) (layer : ImageLayer) → rest ≡
 one_less rest others layer is = rw is (omega arith)
 
 -- the whole image
-pub told_image : (blobs : Bool) (v : VerifiedImage) (a b c d e f : Wire) → WereTold (index_sent v v.list_digest) a b → Tells (manifest_sent v).0 (manifest_sent v).1 b c
-    → Tells (config_sent v).0 (config_sent v).1 c d → WereTold (blobs_sent blobs v) d e → Tells (pulled_sent v).0 (pulled_sent v).1 e f → WereTold (image_sent blobs v) a f
+pub told_image : (blobs : Bool) (v : VerifiedImage) (a b c d e f : Wire) → WereTold (index_sent v v.list_digest) a b → SendsFrame (manifest_sent v).0 (manifest_sent v).1 b c
+    → SendsFrame (config_sent v).0 (config_sent v).1 c d → WereTold (blobs_sent blobs v) d e → SendsFrame (pulled_sent v).0 (pulled_sent v).1 e f → WereTold (image_sent blobs v) a f
 told_image blobs v a b c d e f index manifest config layers pulled =
     told_both (index_sent v v.list_digest) (manifest_sent v ∷ config_sent v ∷ (blobs_sent blobs v ++ pulled_sent v ∷ [])) a b f index
     (c, manifest, (d, config, told_both (blobs_sent blobs v) (pulled_sent v ∷ []) d e f layers (f, pulled, refl)))

@@ -9,7 +9,7 @@ use Rattle.oci_manifests.specs.declared.blob.ImageLayer.{ImageLayer}
 use Rattle.oci_descriptors.specs.declared.descriptor.OciDescriptor.{OciDescriptor}
 use Rattle.cosign_chain.specs.declared.image.VerifiedImage.{VerifiedImage}
 use Rattle.live_host.specs.Heads.{item_head, pulled_head}
-use Rattle.live_host.specs.Wire.{Wire, Tells}
+use Rattle.live_host.specs.Wire.{Wire, SendsFrame}
 
 -- a frame: its line and the bytes after it
 abbrev pub Sent : Type 0
@@ -18,7 +18,7 @@ Sent = Data × List ℕ
 -- these frames were sent, one after another
 abbrev pub WereTold : List Sent → Wire → Wire → Type 0
 WereTold [] old new = old ≡ new
-WereTold (frame ∷ more) old new = (between : Wire) × Tells frame.0 frame.1 old between × WereTold more between new
+WereTold (frame ∷ more) old new = (between : Wire) × SendsFrame frame.0 frame.1 old between × WereTold more between new
 
 -- bytes of an image with their kind, their media type and their digest
 abbrev pub item : List ℕ → List ℕ → List ℕ → List ℕ → List ℕ → Sent

@@ -8,7 +8,7 @@ use Rattle.json_tables.specs.Member.{required, optional}
 use Rattle.cosign_layers.specs.declared.certificate.Vouched.{Vouched}
 use Rattle.live_host.specs.Heads.{verify_head, judge_head}
 use Rattle.live_host.specs.Names.{frame_named}
-use Rattle.live_host.specs.Wire.{Wire, Asks}
+use Rattle.live_host.specs.Wire.{Wire, SendsAndReceives}
 use Rattle.live_host.specs.declared.answers.HostAnswer.{HostAnswer}
 use Rattle.live_host.specs.declared.answers.HostAnswer.TheVariants.{Signature, Certificate}
 
@@ -39,9 +39,9 @@ answer_of d = do
 -- this question was sent, and this answer was received
 abbrev pub WasAsked : HostAnswer → Wire → Wire → Type 0
 WasAsked (Signature a) old new =
-    Asks (verify_head a.key a.signature (length a.message)) a.message verified_of a.valid old new
+    SendsAndReceives (verify_head a.key a.signature (length a.message)) a.message verified_of a.valid old new
 WasAsked (Certificate a) old new =
-    Asks (judge_head a.evidence.certificate a.evidence.integrated_time) [] answer_of a.vouched old new
+    SendsAndReceives (judge_head a.evidence.certificate a.evidence.integrated_time) [] answer_of a.vouched old new
 
 -- one after another
 abbrev pub WereAsked : List HostAnswer → Wire → Wire → Type 0

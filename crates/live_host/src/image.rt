@@ -1,7 +1,7 @@
 // Sending an image.
 ghost use Rattle.std.specs.Prelude.{IfErr, OnOk};
 ghost use Rattle.live_host.specs.HostErrors.{HostCause};
-ghost use Rattle.live_host.specs.Wire.{wire, Tells};
+ghost use Rattle.live_host.specs.Wire.{wire, SendsFrame};
 ghost use Rattle.live_host.specs.Items.{WereTold, image_sent, index_sent, manifest_sent};
 ghost use Rattle.live_host.specs.Items.{config_sent, blobs_sent};
 
@@ -39,7 +39,7 @@ fn give_manifest<S: Source, K: Sink>(
     streams: &mut Streams<S, K>,
     image: &VerifiedImage,
 ) -> Result<(), HostError>
-    ensures told { OnOk result (Tells (manifest_sent image.now).0 (manifest_sent image.now).1
+    ensures told { OnOk result (SendsFrame (manifest_sent image.now).0 (manifest_sent image.now).1
         (wire S.state K.state streams.old) (wire S.state K.state streams.new)) }
     ensures cause { IfErr result (λ e. HostCause e (wire S.state K.state streams.new)) }
 {
@@ -60,7 +60,7 @@ fn give_config<S: Source, K: Sink>(
     streams: &mut Streams<S, K>,
     image: &VerifiedImage,
 ) -> Result<(), HostError>
-    ensures told { OnOk result (Tells (config_sent image.now).0 (config_sent image.now).1
+    ensures told { OnOk result (SendsFrame (config_sent image.now).0 (config_sent image.now).1
         (wire S.state K.state streams.old) (wire S.state K.state streams.new)) }
     ensures cause { IfErr result (λ e. HostCause e (wire S.state K.state streams.new)) }
 {

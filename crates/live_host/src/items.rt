@@ -2,7 +2,7 @@
 ghost use Rattle.std.specs.Prelude.{◌≡◌, IfErr, OnOk, length};
 ghost use Rattle.live_host.specs.Heads.{item_head as head_of_item};
 ghost use Rattle.live_host.specs.HostErrors.{HostCause};
-ghost use Rattle.live_host.specs.Wire.{wire, Tells};
+ghost use Rattle.live_host.specs.Wire.{wire, SendsFrame};
 ghost use Rattle.live_host.specs.Items.{WereTold, media_type_of, layers_sent, codes_document};
 
 use crate::heads::item_head;
@@ -24,7 +24,7 @@ pub(crate) fn give<S: Source, K: Sink>(
     digest: &Text,
     bytes: &Blob,
 ) -> Result<(), HostError>
-    ensures told { OnOk result (Tells
+    ensures told { OnOk result (SendsFrame
         (head_of_item frame.now kind.now media_type.now digest.now (length bytes.now)) bytes.now
         (wire S.state K.state streams.old) (wire S.state K.state streams.new)) }
     ensures cause { IfErr result (λ e. HostCause e (wire S.state K.state streams.new)) }
@@ -43,7 +43,7 @@ pub(crate) fn give_document<S: Source, K: Sink>(
     digest: &Text,
     bytes: &Blob,
 ) -> Result<(), HostError>
-    ensures told { OnOk result (Tells
+    ensures told { OnOk result (SendsFrame
         (head_of_item codes_document kind.now (media_type_of usual.now bytes.now) digest.now (length bytes.now))
         bytes.now (wire S.state K.state streams.old) (wire S.state K.state streams.new)) }
     ensures cause { IfErr result (λ e. HostCause e (wire S.state K.state streams.new)) }

@@ -1,12 +1,12 @@
 // Questions to the host, and its answers.
 ghost use Rattle.std.specs.Prelude.{◌≡◌, IfOk, IfErr, OnOk, length, []};
 ghost use Rattle.serde_json.specs.View.{view};
-ghost use Rattle.json_tables.specs.Outcomes.{Gives};
+ghost use Rattle.json_tables.specs.Outcomes.{ReadsTo};
 ghost use Rattle.cosign_layers.specs.LogEntry.{log_text};
 ghost use Rattle.live_host.specs.Heads.{verify_head, judge_head};
 ghost use Rattle.live_host.specs.Questions.{verified_of, vouched_of, answer_of, AsksMore, WereAsked};
 ghost use Rattle.live_host.specs.HostErrors.{HostCause};
-ghost use Rattle.live_host.specs.Wire.{wire, Asks};
+ghost use Rattle.live_host.specs.Wire.{wire, SendsAndReceives};
 
 use crate::answers::{Answers, CertificateAnswer, HostAnswer, SignatureAnswer};
 use crate::heads::{judge_head, verify_head};
@@ -24,7 +24,7 @@ use std::alloc::{AllocError, Global};
 // The frame `verified`.
 #[tactic(auto, unfolding(crate::specs::Questions::verified_of))]
 fn read_verified(alloc: Global, value: &Value) -> Result<bool, ReadError>
-    ensures { Gives result (verified_of (view value.now)) }
+    ensures { ReadsTo result (verified_of (view value.now)) }
 {
     only(value, &["frame", "valid"])?;
     if !is_frame(value, "verified") {
@@ -36,7 +36,7 @@ fn read_verified(alloc: Global, value: &Value) -> Result<bool, ReadError>
 // What is vouched for a certificate.
 #[tactic(auto, unfolding(crate::specs::Questions::vouched_of))]
 fn read_vouched(alloc: Global, value: &Value) -> Result<Vouched, ReadError>
-    ensures { Gives result (vouched_of (view value.now)) }
+    ensures { ReadsTo result (vouched_of (view value.now)) }
 {
     only(value, &["key", "email", "url", "issuer"])?;
     let key = required_base64(alloc, value, "key")?;
@@ -54,7 +54,7 @@ fn read_vouched(alloc: Global, value: &Value) -> Result<Vouched, ReadError>
 // The frame `vouched`.
 #[tactic(auto, unfolding(crate::specs::Questions::answer_of))]
 fn read_answer(alloc: Global, value: &Value) -> Result<Option<Vouched>, ReadError>
-    ensures { Gives result (answer_of (view value.now)) }
+    ensures { ReadsTo result (answer_of (view value.now)) }
 {
     only(value, &["frame", "vouched"])?;
     if !is_frame(value, "vouched") {
@@ -74,7 +74,8 @@ fn ask_signature<S: Source, K: Sink>(
     message: &Blob,
     signature: &Blob,
 ) -> Result<bool, HostError>
-    ensures asked { IfOk result (λ valid. Asks (verify_head key.now signature.now (length message.now)) message.now
+    ensures asked { IfOk result
+        (λ valid. SendsAndReceives (verify_head key.now signature.now (length message.now)) message.now
         verified_of valid (wire S.state K.state streams.old) (wire S.state K.state streams.new)) }
     ensures cause { IfErr result (λ e. HostCause e (wire S.state K.state streams.new)) }
 {
@@ -91,7 +92,7 @@ fn ask_certificate<S: Source, K: Sink>(
     streams: &mut Streams<S, K>,
     evidence: &Evidence,
 ) -> Result<Option<Vouched>, HostError>
-    ensures asked { IfOk result (λ vouched. Asks
+    ensures asked { IfOk result (λ vouched. SendsAndReceives
         (judge_head evidence.now.certificate evidence.now.integrated_time) [] answer_of vouched
         (wire S.state K.state streams.old) (wire S.state K.state streams.new)) }
     ensures cause { IfErr result (λ e. HostCause e (wire S.state K.state streams.new)) }

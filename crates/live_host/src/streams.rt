@@ -1,11 +1,11 @@
 // The two streams between a program and its host, and frames over them that are not requests.
 ghost use Rattle.std.specs.Prelude.{◌≡◌, false, IfOk, IfErr, OnOk, IsErrOf};
 ghost use Rattle.serde_json.specs.Written.{has_float};
-ghost use Rattle.json_values.specs.Counts.{Rose};
-ghost use Rattle.json_values.specs.Tray.{Adds};
+ghost use Rattle.json_values.specs.Counts.{Increased};
+ghost use Rattle.json_values.specs.SinkState.{Adds};
 ghost use Rattle.live_frames.specs.Writing.{frame_text};
 ghost use Rattle.live_host.specs.HostErrors.{HostCause};
-ghost use Rattle.live_host.specs.Wire.{wire, Hears, Tells};
+ghost use Rattle.live_host.specs.Wire.{wire, ReceivesFrame, SendsFrame};
 
 use json_tables::ReadError;
 use json_values::{Copied, Json, Sink, SinkError, put_all};
@@ -84,7 +84,7 @@ fn put_frame<K: Sink>(
     requires plain { has_float head.now ≡ false }
     ensures whole { OnOk result (Adds (frame_text head.now bytes.now) (K.state sink.old) (K.state sink.new)) }
     ensures fault { IsErrOf result SinkError.Failed
-        → Rose (K.state sink.old).faults (K.state sink.new).faults }
+        → Increased (K.state sink.old).faults (K.state sink.new).faults }
 {
     write_frame(alloc, sink, head, &[])?;
     put_all(sink, bytes)?;
@@ -99,7 +99,7 @@ pub fn tell<S: Source, K: Sink>(
     bytes: &[u8],
 ) -> Result<(), HostError>
     requires plain { has_float head.now ≡ false }
-    ensures told { OnOk result (Tells head.now bytes.now
+    ensures told { OnOk result (SendsFrame head.now bytes.now
         (wire S.state K.state streams.old) (wire S.state K.state streams.new)) }
     ensures cause { IfErr result (λ e. HostCause e (wire S.state K.state streams.new)) }
 {
@@ -115,7 +115,7 @@ pub fn hear<S: Source, K: Sink>(
     alloc: Global,
     streams: &mut Streams<S, K>,
 ) -> Result<Json, HostError>
-    ensures heard { IfOk result (λ head. Hears head
+    ensures heard { IfOk result (λ head. ReceivesFrame head
         (wire S.state K.state streams.old) (wire S.state K.state streams.new)) }
     ensures cause { IfErr result (λ e. HostCause e (wire S.state K.state streams.new)) }
 {

@@ -3,15 +3,15 @@ use Rattle.std.proofs.Common.{◌≡◌, ℕ, true, List, [], ◌∷◌, ◌++�
 use Rattle.std.specs.Prelude.{unwrap_or, Result, Ok, Err}
 use Rattle.std.specs.Io.KnownBytes.{Consumes}
 use Rattle.std.proofs.lemmas.List.Elements.{All-nil}
-use Rattle.json_values.specs.Tray.{Tray, Adds}
-use Rattle.pull_edge.specs.Source.{Spring, Takes}
+use Rattle.json_values.specs.SinkState.{SinkState, Adds}
+use Rattle.pull_edge.specs.Source.{SourceState, Takes}
 use Rattle.oci_transport.specs.declared.message.AnswerHead.{AnswerHead}
 use Rattle.oci_transport.specs.declared.message.Exchange.{Exchange}
 use Rattle.oci_transport.specs.declared.message.Request.{Request}
-use Rattle.live_link.specs.Asking.{Asked, Asks, unsent, head_after, piece_after, Sends, not_sent, was_sent, Gives}
+use Rattle.live_link.specs.Asking.{Asked, Asks, unsent, head_after, piece_after, Sends, not_sent, was_sent, PieceReply}
 use Rattle.live_link.specs.Bodies.{body_in}
 use Rattle.live_link.specs.Requests.{request_text, more_text}
-use Rattle.live_link.specs.Spoken.{IsReply, UnansweredTurn, TurnBy, Turn, Spoke}
+use Rattle.live_link.specs.Transcript.{IsReply, UnansweredTurn, TurnBy, Turn, Transcript}
 use Rattle.live_link.specs.State.{is_open, breach_in, exchange_in, ends_answered, Held, HeldAt}
 use Rattle.live_link.specs.declared.replies.Reply.{Reply}
 use Rattle.live_link.specs.declared.replies.Reply.TheVariants.{Answer, Piece, End, Failed, Other}
@@ -28,18 +28,18 @@ left_after (Some zs) None came xs is taken = absurd taken
 left_after (Some zs) (Some ys) came xs is taken = (ys, refl, sym (ap (λ o. unwrap_or o []) is) ∙ taken)
 
 -- nothing is lost yet: all that was sent and received is the frames of these exchanges
-record InStep (taken left : List ℕ) (tray : Tray) (spring : Spring) (c : List Exchange) : Type 0 where
+record InStep (taken left : List ℕ) (sink : SinkState) (source : SourceState) (c : List Exchange) : Type 0 where
   sent : List ℕ
   came : List ℕ
   after : List ℕ
-  took : tray.taken ≡ Some (taken ++ sent)
-  leaves : spring.left ≡ Some after
+  took : sink.taken ≡ Some (taken ++ sent)
+  leaves : source.left ≡ Some after
   gave : left ≡ came ++ after
-  spoke : Spoke c sent came after
+  spoke : Transcript c sent came after
 
-in_step_of : (taken left : List ℕ) (tray : Tray) (spring : Spring) (breach : Option Breach) (c : List Exchange)
-    → Held taken left tray spring breach c → breach ≡ None → InStep taken left tray spring c
-in_step_of taken left tray spring breach c held none =
+in_step_of : (taken left : List ℕ) (sink : SinkState) (source : SourceState) (breach : Option Breach) (c : List Exchange)
+    → Held taken left sink source breach c → breach ≡ None → InStep taken left sink source c
+in_step_of taken left sink source breach c held none =
     let lost = held.in_step none in
     record {
       sent = held.sent;
@@ -48,12 +48,12 @@ in_step_of taken left tray spring breach c held none =
       took = held.took ∙ ap (λ s. Some (taken ++ (held.sent ++ s))) lost.0 ∙ ap (λ s. Some (taken ++ s)) (append-nil held.sent);
       leaves = held.leaves;
       gave = held.gave ∙ ap (λ s. held.came ++ (s ++ held.after)) lost.1;
-      spoke = subst (λ s. Spoke c held.sent held.came (s ++ held.after)) lost.1 held.spoke;
+      spoke = subst (λ s. Transcript c held.sent held.came (s ++ held.after)) lost.1 held.spoke;
     }
 
-held_of : (taken left : List ℕ) (tray : Tray) (spring : Spring) (breach : Option Breach) (c : List Exchange)
-    → InStep taken left tray spring c → Held taken left tray spring breach c
-held_of taken left tray spring breach c step = record {
+held_of : (taken left : List ℕ) (sink : SinkState) (source : SourceState) (breach : Option Breach) (c : List Exchange)
+    → InStep taken left sink source c → Held taken left sink source breach c
+held_of taken left sink source breach c step = record {
   sent = step.sent;
   came = step.came;
   lost_out = [];
@@ -67,7 +67,7 @@ held_of taken left tray spring breach c step = record {
 }
 
 -- a frame was sent and one was received, which are the next turn
-turned : (taken left text : List ℕ) (reply : Reply) (k l : Tray) (s t : Spring) (c : List Exchange) (e : Exchange)
+turned : (taken left text : List ℕ) (reply : Reply) (k l : SinkState) (s t : SourceState) (c : List Exchange) (e : Exchange)
     → InStep taken left k s c → (asked : Asked text reply s t k l)
     → ((after : List ℕ) → t.left ≡ Some after → Turn e text asked.came after)
     → InStep taken left l t (c ++ e ∷ [])
@@ -80,11 +80,11 @@ turned taken left text reply k l s t c e step asked turn =
       took = asked.sent.took (taken ++ step.sent) step.took ∙ ap Some (append_assoc taken step.sent text);
       leaves = rest.1;
       gave = step.gave ∙ ap (λ s. step.came ++ s) rest.2 ∙ sym (append_assoc step.came asked.came rest.0);
-      spoke = one_more c e step.sent step.came text asked.came rest.0 (subst (Spoke c step.sent step.came) rest.2 step.spoke) (turn rest.0 rest.1);
+      spoke = one_more c e step.sent step.came text asked.came rest.0 (subst (Transcript c step.sent step.came) rest.2 step.spoke) (turn rest.0 rest.1);
     }
 
 -- the request for a piece was sent and a frame was received, which belong to the last turn
-turned_more : (taken left : List ℕ) (reply : Reply) (k l : Tray) (s t : Spring) (c : List Exchange)
+turned_more : (taken left : List ℕ) (reply : Reply) (k l : SinkState) (s t : SourceState) (c : List Exchange)
     → InStep taken left k s c → ends_answered c ≡ true → Asked more_text reply s t k l → InStep taken left l t c
 turned_more taken left reply k l s t c step answered asked =
     let rest = left_after s.left t.left asked.came step.after step.leaves asked.taken in
@@ -95,11 +95,11 @@ turned_more taken left reply k l s t c step answered asked =
       took = asked.sent.took (taken ++ step.sent) step.took ∙ ap Some (append_assoc taken step.sent more_text);
       leaves = rest.1;
       gave = step.gave ∙ ap (λ s. step.came ++ s) rest.2 ∙ sym (append_assoc step.came asked.came rest.0);
-      spoke = asks_more c step.sent step.came asked.came rest.0 answered (reply, asked.replied) (subst (Spoke c step.sent step.came) rest.2 step.spoke);
+      spoke = asks_more c step.sent step.came asked.came rest.0 answered (reply, asked.replied) (subst (Transcript c step.sent step.came) rest.2 step.spoke);
     }
 
 -- whatever was sent and received is lost
-lost : (taken left front came : List ℕ) (k l : Tray) (s t : Spring) (c : List Exchange) (breach : Breach)
+lost : (taken left front came : List ℕ) (k l : SinkState) (s t : SourceState) (c : List Exchange) (breach : Breach)
     → InStep taken left k s c → Adds front k l → Takes came s t → Held taken left l t (Some breach) c
 lost taken left front came k l s t c breach step sent got =
     let rest = left_after s.left t.left came step.after step.leaves got in
@@ -112,14 +112,14 @@ lost taken left front came k l s t c breach step sent got =
       took = sent.took (taken ++ step.sent) step.took ∙ ap Some (append_assoc taken step.sent front);
       leaves = rest.1;
       gave = step.gave ∙ ap (λ s. step.came ++ s) rest.2;
-      spoke = subst (Spoke c step.sent step.came) rest.2 step.spoke;
+      spoke = subst (Transcript c step.sent step.came) rest.2 step.spoke;
       in_step = λ none. absurd (cc none);
     }
 
 -- one more exchange, for which nothing was sent or received
-unasked : (taken left : List ℕ) (tray : Tray) (spring : Spring) (breach : Option Breach) (c : List Exchange) (e : Exchange) → e.answer ≡ None
-    → Held taken left tray spring breach c → Held taken left tray spring breach (c ++ e ∷ [])
-unasked taken left tray spring breach c e none held = record {
+unasked : (taken left : List ℕ) (sink : SinkState) (source : SourceState) (breach : Option Breach) (c : List Exchange) (e : Exchange) → e.answer ≡ None
+    → Held taken left sink source breach c → Held taken left sink source breach (c ++ e ∷ [])
+unasked taken left sink source breach c e none held = record {
   sent = held.sent ++ [];
   came = held.came ++ [];
   lost_out = held.lost_out;
@@ -150,7 +150,7 @@ unsent_closed Cut is = cc is
 unsent_closed (Broken breach) is = cc is
 
 -- the head of a response was received
-answered : (taken left : List ℕ) (k l : Tray) (s t : Spring) (c : List Exchange) (request : Request) (head : AnswerHead) (faults : ℕ)
+answered : (taken left : List ℕ) (k l : SinkState) (s t : SourceState) (c : List Exchange) (request : Request) (head : AnswerHead) (faults : ℕ)
     → InStep taken left k s c → Asked (request_text request) (Answer head) s t k l
     → HeldAt taken left l t Open (c ++ exchange_in t.left (request, heard_of (Some head) faults) ∷ [])
 answered taken left k l s t c request head faults step asked =
@@ -169,7 +169,7 @@ answered taken left k l s t c request head faults step asked =
     }
 
 -- a frame that reports its failure was received
-refused : (taken left : List ℕ) (k l : Tray) (s t : Spring) (c : List Exchange) (request : Request) (faults : ℕ)
+refused : (taken left : List ℕ) (k l : SinkState) (s t : SourceState) (c : List Exchange) (request : Request) (faults : ℕ)
     → InStep taken left k s c → Asked (request_text request) Failed s t k l
     → HeldAt taken left l t Ended (c ++ exchange_in t.left (request, heard_of None faults) ∷ [])
 refused taken left k l s t c request faults step asked =
@@ -180,7 +180,7 @@ refused taken left k l s t c request faults step asked =
     }
 
 -- the streams broke
-broke : (taken left front came : List ℕ) (k l : Tray) (s t : Spring) (c : List Exchange) (request : Request) (faults : ℕ) (breach : Breach)
+broke : (taken left front came : List ℕ) (k l : SinkState) (s t : SourceState) (c : List Exchange) (request : Request) (faults : ℕ) (breach : Breach)
     → InStep taken left k s c → Adds front k l → Takes came s t
     → HeldAt taken left l t (Broken breach) (c ++ exchange_in t.left (request, heard_of None faults) ∷ [])
 broke taken left front came k l s t c request faults breach step sent got = record {
@@ -188,7 +188,7 @@ broke taken left front came k l s t c request faults breach step sent got = reco
   answered = λ is. absurd (cc is);
 }
 
-replied : (taken left : List ℕ) (k l : Tray) (s t : Spring) (c : List Exchange) (request : Request) (faults : ℕ) (reply : Result Reply Breach)
+replied : (taken left : List ℕ) (k l : SinkState) (s t : SourceState) (c : List Exchange) (request : Request) (faults : ℕ) (reply : Result Reply Breach)
     → InStep taken left k s c → Asks (request_text request) reply s t k l
     → HeldAt taken left l t (head_after reply).0 (c ++ exchange_in t.left (request, heard_of (head_after reply).1 faults) ∷ [])
 replied taken left k l s t c request faults (Ok (Answer head)) step asks = answered taken left k l s t c request head faults step asks
@@ -198,22 +198,22 @@ replied taken left k l s t c request faults (Ok Failed) step asks = refused take
 replied taken left k l s t c request faults (Ok Other) step asks = broke taken left (request_text request) asks.came k l s t c request faults _ step asks.sent asks.taken
 replied taken left k l s t c request faults (Err breach) step asks = broke taken left asks.front asks.came k l s t c request faults breach step asks.sent asks.taken
 
-not_asked : (taken left : List ℕ) (tray : Tray) (spring : Spring) (stage : Stage) (c : List Exchange) (request : Request) (faults : ℕ)
-    → HeldAt taken left tray spring stage c → HeldAt taken left tray spring (unsent stage) (c ++ exchange_in spring.left (request, heard_of None faults) ∷ [])
-not_asked taken left tray spring stage c request faults at = record {
-  held = subst (λ b. Held taken left tray spring b (c ++ exchange_in spring.left (request, heard_of None faults) ∷ [])) (sym (unsent_breach stage))
-      (unasked taken left tray spring (breach_in stage) c (exchange_in spring.left (request, heard_of None faults)) refl at.held);
+not_asked : (taken left : List ℕ) (sink : SinkState) (source : SourceState) (stage : Stage) (c : List Exchange) (request : Request) (faults : ℕ)
+    → HeldAt taken left sink source stage c → HeldAt taken left sink source (unsent stage) (c ++ exchange_in source.left (request, heard_of None faults) ∷ [])
+not_asked taken left sink source stage c request faults at = record {
+  held = subst (λ b. Held taken left sink source b (c ++ exchange_in source.left (request, heard_of None faults) ∷ [])) (sym (unsent_breach stage))
+      (unasked taken left sink source (breach_in stage) c (exchange_in source.left (request, heard_of None faults)) refl at.held);
   answered = λ is. absurd (unsent_closed stage is);
 }
 
 -- what is known after a request
-pub sends : (taken left : List ℕ) (k l : Tray) (s t : Spring) (stage : Stage) (r : Stage × Option AnswerHead) (c : List Exchange) (request : Request) (faults : ℕ)
+pub sends : (taken left : List ℕ) (k l : SinkState) (s t : SourceState) (stage : Stage) (r : Stage × Option AnswerHead) (c : List Exchange) (request : Request) (faults : ℕ)
     → HeldAt taken left k s stage c → Sends request stage r s t k l
     → HeldAt taken left l t r.0 (c ++ exchange_in t.left (request, heard_of r.1 faults) ∷ [])
 sends taken left k l s t stage r c request faults at (not_sent is same_source same_sink) =
     subst (λ (q : Stage × Option AnswerHead). HeldAt taken left l t q.0 (c ++ exchange_in t.left (request, heard_of q.1 faults) ∷ [])) (sym is)
-    (subst (λ (u : Spring). HeldAt taken left l u (unsent stage) (c ++ exchange_in u.left (request, heard_of None faults) ∷ [])) (sym same_source)
-    (subst (λ (m : Tray). HeldAt taken left m s (unsent stage) (c ++ exchange_in s.left (request, heard_of None faults) ∷ [])) (sym same_sink)
+    (subst (λ (u : SourceState). HeldAt taken left l u (unsent stage) (c ++ exchange_in u.left (request, heard_of None faults) ∷ [])) (sym same_source)
+    (subst (λ (m : SinkState). HeldAt taken left m s (unsent stage) (c ++ exchange_in s.left (request, heard_of None faults) ∷ [])) (sym same_sink)
     (not_asked taken left k s stage c request faults at)))
 sends taken left k l s t stage r c request faults at (was_sent reply none is asks) =
     subst (λ (q : Stage × Option AnswerHead). HeldAt taken left l t q.0 (c ++ exchange_in t.left (request, heard_of q.1 faults) ∷ [])) (sym is)
@@ -221,7 +221,7 @@ sends taken left k l s t stage r c request faults at (was_sent reply none is ask
 
 -- ---- a piece
 
-pieced : (taken left : List ℕ) (k l : Tray) (s t : Spring) (c : List Exchange) (reply : Result Reply Breach)
+pieced : (taken left : List ℕ) (k l : SinkState) (s t : SourceState) (c : List Exchange) (reply : Result Reply Breach)
     → InStep taken left k s c → ends_answered c ≡ true → Asks more_text reply s t k l → HeldAt taken left l t (piece_after reply).0 c
 pieced taken left k l s t c (Ok (Answer head)) step last asks = record { held = lost taken left more_text asks.came k l s t c _ step asks.sent asks.taken; answered = λ is. absurd (cc is) }
 pieced taken left k l s t c (Ok (Piece piece)) step last asks = record { held = held_of taken left l t None c (turned_more taken left (Piece piece) k l s t c step last asks); answered = λ is. last }
@@ -231,8 +231,8 @@ pieced taken left k l s t c (Ok Other) step last asks = record { held = lost tak
 pieced taken left k l s t c (Err breach) step last asks = record { held = lost taken left asks.front asks.came k l s t c breach step asks.sent asks.taken; answered = λ is. absurd (cc is) }
 
 -- what is known after the request for a piece
-pub gives : (taken left : List ℕ) (k l : Tray) (s t : Spring) (stage : Stage) (r : Stage × Option (List ℕ)) (c : List Exchange)
-    → HeldAt taken left k s stage c → stage ≡ Open → Gives r s t k l → HeldAt taken left l t r.0 c
+pub gives : (taken left : List ℕ) (k l : SinkState) (s t : SourceState) (stage : Stage) (r : Stage × Option (List ℕ)) (c : List Exchange)
+    → HeldAt taken left k s stage c → stage ≡ Open → PieceReply r s t k l → HeldAt taken left l t r.0 c
 gives taken left k l s t stage r c at opened got =
     subst (λ (q : Stage × Option (List ℕ)). HeldAt taken left l t q.0 c) (sym got.is)
     (pieced taken left k l s t c got.reply (in_step_of taken left k s (breach_in stage) c at.held (ap breach_in opened)) (at.answered (ap is_open opened)) got.asks)

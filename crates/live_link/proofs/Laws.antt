@@ -1,8 +1,8 @@
 -- The laws of a transport, from the outcome of a request.
 use Rattle.std.proofs.Common.{◌≡◌, ℕ, true, false, List, [], ◌∷◌, ◌++◌, Option, Some, None, refl, sym, ap, ◌∙◌, append-nil}
 use Rattle.std.specs.Prelude.{is_some, Result, Ok, Err}
-use Rattle.json_values.specs.Tray.{Tray}
-use Rattle.pull_edge.specs.Source.{Spring}
+use Rattle.json_values.specs.SinkState.{SinkState}
+use Rattle.pull_edge.specs.Source.{SourceState}
 use Rattle.http_server.specs.declared.log.Log.{Log}
 use Rattle.oci_transport.specs.Link.{Link, Answers, AddsUnanswered, AddsAtMost, answer_of, exchange_of}
 use Rattle.oci_transport.specs.declared.message.AnswerHead.{AnswerHead}
@@ -29,7 +29,7 @@ open_by (Ok Other) head is = absurd (cc is)
 open_by (Err breach) head is = absurd (cc is)
 
 -- the body of a response is open
-pub opens : (request : Request) (stage : Stage) (r : Stage × Option AnswerHead) (s t : Spring) (k l : Tray) (head : AnswerHead)
+pub opens : (request : Request) (stage : Stage) (r : Stage × Option AnswerHead) (s t : SourceState) (k l : SinkState) (head : AnswerHead)
     → Sends request stage r s t k l → r.1 ≡ Some head → r.0 ≡ Open
 opens request stage r s t k l head (not_sent is same_source same_sink) some =
     let none : r.1 ≡ None = ap (λ (q : Stage × Option AnswerHead). q.1) is in absurd (cc (none, some))
@@ -51,7 +51,7 @@ rest_by (Ok Other) o is = refl
 rest_by (Err breach) o is = refl
 
 -- nothing can be taken if no response arrived
-pub nothing_left : (request : Request) (stage : Stage) (r : Stage × Option AnswerHead) (s t : Spring) (k l : Tray) (o : Option (List ℕ))
+pub nothing_left : (request : Request) (stage : Stage) (r : Stage × Option AnswerHead) (s t : SourceState) (k l : SinkState) (o : Option (List ℕ))
     → Sends request stage r s t k l → r.1 ≡ None → rest_in r.0 o ≡ Some []
 nothing_left request stage r s t k l o (not_sent is same_source same_sink) none =
     ap (λ (q : Stage × Option AnswerHead). rest_in q.0 o) is ∙ rest_unsent stage o
@@ -61,34 +61,34 @@ nothing_left request stage r s t k l o (was_sent reply whole is asks) none =
 -- ---- the exposed exchanges
 
 -- an exchange without a response
-pub told_unanswered : {S K : Type 0} (spring : S → Spring) (tray : K → Tray) (began : List (S × K)) (items later : List (S × Log Request Heard)) (source : S) (said : Log Request Heard)
+pub told_unanswered : {S K : Type 0} (source_state : S → SourceState) (sink : K → SinkState) (began : List (S × K)) (items later : List (S × Log Request Heard)) (source : S) (said : Log Request Heard)
     → (request : Request) (head : Option AnswerHead) (old new : Link)
     → later ≡ items ++ (source, said) ∷ [] → said.items ≡ (request, record { head = head; faults = old.faults }) ∷ [] → head ≡ None
-    → old.answers ≡ None → old.told ≡ told_since spring tray began (exchanges_by spring items) → new.told ≡ told_since spring tray began (exchanges_by spring later)
+    → old.answers ≡ None → old.told ≡ told_since source_state sink began (exchanges_by source_state items) → new.told ≡ told_since source_state sink began (exchanges_by source_state later)
     → AddsUnanswered request old new
-told_unanswered spring tray began items later source said request head old new is one none unknown was now =
+told_unanswered source_state sink began items later source said request head old new is one none unknown was now =
     extends old new (exchange_of request None old ∷ []) unknown (λ before told.
-    now ∙ tells_more spring tray began (exchanges_by spring items) (exchanges_by spring later) before (exchange_of request None old)
-    (one_entry spring items later source said _ is one
-    ∙ ap (λ (o : Option AnswerHead). exchanges_by spring items ++ exchange_in (spring source).left (request, record { head = o; faults = old.faults }) ∷ []) none)
+    now ∙ tells_more source_state sink began (exchanges_by source_state items) (exchanges_by source_state later) before (exchange_of request None old)
+    (one_entry source_state items later source said _ is one
+    ∙ ap (λ (o : Option AnswerHead). exchanges_by source_state items ++ exchange_in (source_state source).left (request, record { head = o; faults = old.faults }) ∷ []) none)
     (sym was ∙ told))
 
 -- an exchange with a response
-pub told_answered : {S K : Type 0} (spring : S → Spring) (tray : K → Tray) (began : List (S × K)) (items later : List (S × Log Request Heard)) (source : S) (said : Log Request Heard)
+pub told_answered : {S K : Type 0} (source_state : S → SourceState) (sink : K → SinkState) (began : List (S × K)) (items later : List (S × Log Request Heard)) (source : S) (said : Log Request Heard)
     → (request : Request) (given : Option AnswerHead) (head : AnswerHead) (stage : Stage) (old new : Link)
     → later ≡ items ++ (source, said) ∷ [] → said.items ≡ (request, record { head = given; faults = old.faults }) ∷ [] → given ≡ Some head
-    → old.answers ≡ None → old.told ≡ told_since spring tray began (exchanges_by spring items) → new.told ≡ told_since spring tray began (exchanges_by spring later)
-    → stage ≡ Open → new.rest ≡ rest_in stage (spring source).left
-    → ((before : List Exchange) → old.told ≡ Some before → is_some (spring source).left ≡ true)
+    → old.answers ≡ None → old.told ≡ told_since source_state sink began (exchanges_by source_state items) → new.told ≡ told_since source_state sink began (exchanges_by source_state later)
+    → stage ≡ Open → new.rest ≡ rest_in stage (source_state source).left
+    → ((before : List Exchange) → old.told ≡ Some before → is_some (source_state source).left ≡ true)
     → Answers request head old new
-told_answered spring tray began items later source said request given head stage old new is one some unknown was now opened left known = record {
-  body = body_left (spring source).left;
-  added = extends old new (exchange_of request (Some (answer_of head (body_left (spring source).left))) old ∷ []) unknown (λ before told.
-      now ∙ tells_more spring tray began (exchanges_by spring items) (exchanges_by spring later) before (exchange_of request (Some (answer_of head (body_left (spring source).left))) old)
-      (one_entry spring items later source said _ is one
-      ∙ ap (λ (o : Option AnswerHead). exchanges_by spring items ++ exchange_in (spring source).left (request, record { head = o; faults = old.faults }) ∷ []) some)
+told_answered source_state sink began items later source said request given head stage old new is one some unknown was now opened left known = record {
+  body = body_left (source_state source).left;
+  added = extends old new (exchange_of request (Some (answer_of head (body_left (source_state source).left))) old ∷ []) unknown (λ before told.
+      now ∙ tells_more source_state sink began (exchanges_by source_state items) (exchanges_by source_state later) before (exchange_of request (Some (answer_of head (body_left (source_state source).left))) old)
+      (one_entry source_state items later source said _ is one
+      ∙ ap (λ (o : Option AnswerHead). exchanges_by source_state items ++ exchange_in (source_state source).left (request, record { head = o; faults = old.faults }) ∷ []) some)
       (sym was ∙ told));
-  rest = λ before told. left ∙ rest_known stage (spring source).left opened (known before told);
+  rest = λ before told. left ∙ rest_known stage (source_state source).left opened (known before told);
 }
 
 -- nothing is exposed

@@ -5,16 +5,16 @@ use Rattle.std.specs.Coded.{Coded-set, coded_bool}
 use Rattle.std.specs.Io.KnownBytes.{Consumes}
 use Rattle.std.proofs.Math.Logic.{∥∥₁_elim}
 use Rattle.std.proofs.lemmas.Grind.{flat_map-append}
-use Rattle.json_values.specs.Tray.{Tray}
-use Rattle.pull_edge.specs.Source.{Spring}
+use Rattle.json_values.specs.SinkState.{SinkState}
+use Rattle.pull_edge.specs.Source.{SourceState}
 use Rattle.http_server.specs.declared.log.Log.{Log}
 use Rattle.oci_transport.specs.Link.{Link, Answering, Extends, Steady}
 use Rattle.oci_transport.specs.declared.message.Exchange.{Exchange}
 use Rattle.oci_transport.specs.declared.message.Request.{Request}
-use Rattle.live_link.specs.Asking.{Asks, piece_after, Gives}
+use Rattle.live_link.specs.Asking.{Asks, piece_after, PieceReply}
 use Rattle.live_link.specs.Bodies.{body_in}
 use Rattle.live_link.specs.Requests.{more_text}
-use Rattle.live_link.specs.Spoken.{Replies}
+use Rattle.live_link.specs.Transcript.{Replies}
 use Rattle.live_link.specs.State.{body_left, exchange_in, exchanges_by, told_from, told_since, rest_in, Holds}
 use Rattle.live_link.specs.declared.replies.Reply.{Reply}
 use Rattle.live_link.specs.declared.replies.Reply.TheVariants.{Answer, Piece, End, Failed, Other}
@@ -26,22 +26,22 @@ use Rattle.live_link.proofs.Pieces.{body_piece, body_end, not_empty}
 
 -- ---- the history
 
-pub one_entry : {S : Type 0} (spring : S → Spring) (items later : List (S × Log Request Heard)) (source : S) (said : Log Request Heard) (entry : Request × Heard)
-    → later ≡ items ++ (source, said) ∷ [] → said.items ≡ entry ∷ [] → exchanges_by spring later ≡ exchanges_by spring items ++ exchange_in (spring source).left entry ∷ []
-one_entry spring items later source said entry is one =
-    ap (exchanges_by spring) is ∙ flat_map-append _ items ((source, said) ∷ [])
-    ∙ ap (λ t. exchanges_by spring items ++ t) (append-nil _ ∙ ap (map (exchange_in (spring source).left)) one)
+pub one_entry : {S : Type 0} (source_state : S → SourceState) (items later : List (S × Log Request Heard)) (source : S) (said : Log Request Heard) (entry : Request × Heard)
+    → later ≡ items ++ (source, said) ∷ [] → said.items ≡ entry ∷ [] → exchanges_by source_state later ≡ exchanges_by source_state items ++ exchange_in (source_state source).left entry ∷ []
+one_entry source_state items later source said entry is one =
+    ap (exchanges_by source_state) is ∙ flat_map-append _ items ((source, said) ∷ [])
+    ∙ ap (λ t. exchanges_by source_state items ++ t) (append-nil _ ∙ ap (map (exchange_in (source_state source).left)) one)
 
 told_more : (took leaves : Option (List ℕ)) (c before : List Exchange) (e : Exchange) → told_from took leaves c ≡ Some before → told_from took leaves (c ++ e ∷ []) ≡ Some (before ++ e ∷ [])
 told_more None leaves c before e told = absurd (cc told)
 told_more (Some t) None c before e told = absurd (cc told)
 told_more (Some t) (Some l) c before e told = ap (option_map (λ b. b ++ e ∷ [])) told
 
-pub tells_more : {S K : Type 0} (spring : S → Spring) (tray : K → Tray) (began : List (S × K)) (c d before : List Exchange) (e : Exchange)
-    → d ≡ c ++ e ∷ [] → told_since spring tray began c ≡ Some before → told_since spring tray began d ≡ Some (before ++ e ∷ [])
-tells_more spring tray [] c d before e is told = absurd (cc told)
-tells_more spring tray (first ∷ later) c d before e is told =
-    ap (told_from (tray first.1).taken (spring first.0).left) is ∙ told_more (tray first.1).taken (spring first.0).left c before e told
+pub tells_more : {S K : Type 0} (source_state : S → SourceState) (sink_state : K → SinkState) (began : List (S × K)) (c d before : List Exchange) (e : Exchange)
+    → d ≡ c ++ e ∷ [] → told_since source_state sink_state began c ≡ Some before → told_since source_state sink_state began d ≡ Some (before ++ e ∷ [])
+tells_more source_state sink_state [] c d before e is told = absurd (cc told)
+tells_more source_state sink_state (first ∷ later) c d before e is told =
+    ap (told_from (sink_state first.1).taken (source_state first.0).left) is ∙ told_more (sink_state first.1).taken (source_state first.0).left c before e told
 
 -- ---- if exchanges are exposed, the source exposes its bytes
 
@@ -50,11 +50,11 @@ began_so None leaves c before told = absurd (cc told)
 began_so (Some t) None c before told = absurd (cc told)
 began_so (Some t) (Some l) c before told = (t, l, refl, refl)
 
-pub tells : {S K : Type 0} (spring : S → Spring) (tray : K → Tray) (began : List (S × K)) (source : S) (sink : K) (stage : Stage) (c d before : List Exchange)
-    → ∥ Holds spring tray began source sink stage c ∥₁ → told_since spring tray began d ≡ Some before → is_some (spring source).left ≡ true
-tells spring tray [] source sink stage c d before holds told = absurd (cc told)
-tells spring tray (first ∷ later) source sink stage c d before holds told =
-    let so = began_so (tray first.1).taken (spring first.0).left d before told in
+pub tells : {S K : Type 0} (source_state : S → SourceState) (sink_state : K → SinkState) (began : List (S × K)) (source : S) (sink : K) (stage : Stage) (c d before : List Exchange)
+    → ∥ Holds source_state sink_state began source sink stage c ∥₁ → told_since source_state sink_state began d ≡ Some before → is_some (source_state source).left ≡ true
+tells source_state sink_state [] source sink stage c d before holds told = absurd (cc told)
+tells source_state sink_state (first ∷ later) source sink stage c d before holds told =
+    let so = began_so (sink_state first.1).taken (source_state first.0).left d before told in
     ∥∥₁_elim holds (Coded-set coded_bool _ _) (λ h. ap is_some (h so.0 so.1 so.2 so.3).held.leaves)
 
 body_known : (o : Option (List ℕ)) → is_some o ≡ true → option_map body_in o ≡ Some (body_left o)
@@ -107,7 +107,7 @@ ended_by (Some xs) (Some ys) came rest is taken told =
 abbrev TakesPart : List ℕ → Option (List ℕ) → Option (List ℕ) → Type 0
 TakesPart p old new = (rest : List ℕ) → old ≡ Some rest → (left : List ℕ) × (rest ≡ p ++ left) × (new ≡ Some left) × (p ≡ [] → rest ≡ [])
 
-part_of : (s t : Spring) (k l : Tray) (reply : Result Reply Breach) (p : List ℕ) → Asks more_text reply s t k l → (piece_after reply).1 ≡ Some p
+part_of : (s t : SourceState) (k l : SinkState) (reply : Result Reply Breach) (p : List ℕ) → Asks more_text reply s t k l → (piece_after reply).1 ≡ Some p
     → TakesPart p (rest_in Open s.left) (rest_in (piece_after reply).0 t.left)
 part_of s t k l (Ok (Answer head)) p asks is rest told = absurd (cc is)
 part_of s t k l (Ok (Piece piece)) p asks is rest told =
@@ -120,7 +120,7 @@ part_of s t k l (Ok Failed) p asks is rest told = absurd (cc is)
 part_of s t k l (Ok Other) p asks is rest told = absurd (cc is)
 part_of s t k l (Err breach) p asks is rest told = absurd (cc is)
 
-pub takes_part : (s t : Spring) (k l : Tray) (stage : Stage) (r : Stage × Option (List ℕ)) (p : List ℕ) → stage ≡ Open → Gives r s t k l → r.1 ≡ Some p
+pub takes_part : (s t : SourceState) (k l : SinkState) (stage : Stage) (r : Stage × Option (List ℕ)) (p : List ℕ) → stage ≡ Open → PieceReply r s t k l → r.1 ≡ Some p
     → TakesPart p (rest_in stage s.left) (rest_in r.0 t.left)
 takes_part s t k l stage r p opened got is =
     subst (λ u. TakesPart p (rest_in u s.left) (rest_in r.0 t.left)) (sym opened)

@@ -1,8 +1,8 @@
 -- The beginning and the end of a transport.
 use Rattle.std.proofs.Common.{◌≡◌, ℕ, List, [], ◌∷◌, Option, Some, None, refl, sym, ap, subst, ◌∙◌, append-nil}
 use Rattle.std.proofs.Math.Logic.{∥∥₁_map}
-use Rattle.json_values.specs.Tray.{Tray}
-use Rattle.pull_edge.specs.Source.{Spring}
+use Rattle.json_values.specs.SinkState.{SinkState}
+use Rattle.pull_edge.specs.Source.{SourceState}
 use Rattle.oci_transport.specs.declared.message.Exchange.{Exchange}
 use Rattle.oci_transport.specs.declared.message.Answer.{Answer}
 use Rattle.live_link.specs.State.{opening, told_from, told_since, breach_in, Held, HeldAt, Holds}
@@ -10,8 +10,8 @@ use Rattle.live_link.specs.declared.stage.Stage.{Stage}
 use Rattle.live_link.specs.declared.stage.Stage.TheVariants.{Ended}
 
 -- nothing was sent or received
-pub begun : (tray : Tray) (spring : Spring) (taken left : List ℕ) → tray.taken ≡ Some taken → spring.left ≡ Some left → HeldAt taken left tray spring Ended []
-begun tray spring taken left took leaves = record {
+pub begun : (sink_state : SinkState) (source_state : SourceState) (taken left : List ℕ) → sink_state.taken ≡ Some taken → source_state.left ≡ Some left → HeldAt taken left sink_state source_state Ended []
+begun sink_state source_state taken left took leaves = record {
   held = record {
     sent = [];
     came = [];
@@ -27,11 +27,11 @@ begun tray spring taken left took leaves = record {
   answered = λ is. absurd (cc is);
 }
 
-pub begins : {S K : Type 0} (spring : S → Spring) (tray : K → Tray) (items : List (S × K)) (source : S) (sink : K) (c : List Exchange)
-    → items ≡ (source, sink) ∷ [] → c ≡ [] → Holds spring tray items source sink Ended c
-begins spring tray items source sink c is none =
-    subst (λ is'. Holds spring tray is' source sink Ended c) (sym is)
-    (λ taken left took leaves. subst (HeldAt taken left (tray sink) (spring source) Ended) (sym none) (begun (tray sink) (spring source) taken left took leaves))
+pub begins : {S K : Type 0} (source_state : S → SourceState) (sink_state : K → SinkState) (items : List (S × K)) (source : S) (sink : K) (c : List Exchange)
+    → items ≡ (source, sink) ∷ [] → c ≡ [] → Holds source_state sink_state items source sink Ended c
+begins source_state sink_state items source sink c is none =
+    subst (λ is'. Holds source_state sink_state is' source sink Ended c) (sym is)
+    (λ taken left took leaves. subst (HeldAt taken left (sink_state sink) (source_state source) Ended) (sym none) (begun (sink_state sink) (source_state source) taken left took leaves))
 
 abbrev body_in_request : Option (List Exchange) → Option (List ℕ)
 body_in_request None = None
@@ -59,10 +59,10 @@ told_is None leaves c d taken left told = absurd (cc told)
 told_is (Some t) None c d taken left told = absurd (cc told)
 told_is (Some t) (Some l) c d taken left told = (ap body_in_request told, ap body_in_answer told, ap (behind c) told)
 
-pub ends : {S K : Type 0} (spring : S → Spring) (tray : K → Tray) (items : List (S × K)) (source : S) (sink : K) (stage : Stage) (c d : List Exchange) (taken left : List ℕ)
-    → ∥ Holds spring tray items source sink stage c ∥₁ → told_since spring tray items c ≡ Some (opening taken left ∷ d)
-    → ∥ Held taken left (tray sink) (spring source) (breach_in stage) d ∥₁
-ends spring tray [] source sink stage c d taken left holds told = absurd (cc told)
-ends spring tray (first ∷ later) source sink stage c d taken left holds told =
-    let is = told_is (tray first.1).taken (spring first.0).left c d taken left told in
-    ∥∥₁_map holds (λ h. subst (Held taken left (tray sink) (spring source) (breach_in stage)) is.2 (h taken left is.0 is.1).held)
+pub ends : {S K : Type 0} (source_state : S → SourceState) (sink_state : K → SinkState) (items : List (S × K)) (source : S) (sink : K) (stage : Stage) (c d : List Exchange) (taken left : List ℕ)
+    → ∥ Holds source_state sink_state items source sink stage c ∥₁ → told_since source_state sink_state items c ≡ Some (opening taken left ∷ d)
+    → ∥ Held taken left (sink_state sink) (source_state source) (breach_in stage) d ∥₁
+ends source_state sink_state [] source sink stage c d taken left holds told = absurd (cc told)
+ends source_state sink_state (first ∷ later) source sink stage c d taken left holds told =
+    let is = told_is (sink_state first.1).taken (source_state first.0).left c d taken left told in
+    ∥∥₁_map holds (λ h. subst (Held taken left (sink_state sink) (source_state source) (breach_in stage)) is.2 (h taken left is.0 is.1).held)

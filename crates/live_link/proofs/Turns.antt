@@ -8,7 +8,7 @@ use Rattle.oci_transport.specs.declared.message.Answer.{Answer}
 use Rattle.oci_transport.specs.declared.message.Request.{Request}
 use Rattle.live_link.specs.Requests.{request_text, more_text}
 use Rattle.live_link.specs.Bodies.{body_in}
-use Rattle.live_link.specs.Spoken.{IsReply, texts, asked, TurnBy, Turn, SpokeMore, Spoke}
+use Rattle.live_link.specs.Transcript.{IsReply, texts, asked, TurnBy, Turn, TranscriptMore, Transcript}
 use Rattle.live_link.specs.State.{is_answered, ends_answered}
 
 -- the same turn, with equal bytes after it
@@ -17,10 +17,10 @@ turn_by o request sent came a b same turn = subst (TurnBy o request sent came) s
 
 -- These exchanges, and then those.
 pub joins : (c d : List Exchange) (sent came more_sent more_came after : List ℕ)
-    → Spoke c sent came (more_came ++ after) → Spoke d more_sent more_came after → Spoke (c ++ d) (sent ++ more_sent) (came ++ more_came) after
+    → Transcript c sent came (more_came ++ after) → Transcript d more_sent more_came after → Transcript (c ++ d) (sent ++ more_sent) (came ++ more_came) after
 joins [] d sent came more_sent more_came after first later =
-    subst (λ s. Spoke d (s ++ more_sent) (came ++ more_came) after) (sym first.0)
-    (subst (λ s. Spoke d ([] ++ more_sent) (s ++ more_came) after) (sym first.1) later)
+    subst (λ s. Transcript d (s ++ more_sent) (came ++ more_came) after) (sym first.0)
+    (subst (λ s. Transcript d ([] ++ more_sent) (s ++ more_came) after) (sym first.1) later)
 joins (e ∷ c) d sent came more_sent more_came after first later = record {
   first_sent = first.first_sent;
   later_sent = first.later_sent ++ more_sent;
@@ -40,10 +40,10 @@ pub record Parts (c d : List Exchange) (sent came after : List ℕ) : Type 0 whe
   pub later_came : List ℕ
   pub out : sent ≡ first_sent ++ later_sent
   pub in_bytes : came ≡ first_came ++ later_came
-  pub first : Spoke c first_sent first_came (later_came ++ after)
-  pub later : Spoke d later_sent later_came after
+  pub first : Transcript c first_sent first_came (later_came ++ after)
+  pub later : Transcript d later_sent later_came after
 
-pub parts : (c d : List Exchange) (sent came after : List ℕ) → Spoke (c ++ d) sent came after → Parts c d sent came after
+pub parts : (c d : List Exchange) (sent came after : List ℕ) → Transcript (c ++ d) sent came after → Parts c d sent came after
 parts [] d sent came after spoke = record {
   first_sent = [];
   later_sent = sent;
@@ -78,7 +78,7 @@ parts (e ∷ c) d sent came after spoke =
 
 -- one more exchange
 pub one_more : (c : List Exchange) (e : Exchange) (sent came more_sent more_came after : List ℕ)
-    → Spoke c sent came (more_came ++ after) → Turn e more_sent more_came after → Spoke (c ++ e ∷ []) (sent ++ more_sent) (came ++ more_came) after
+    → Transcript c sent came (more_came ++ after) → Turn e more_sent more_came after → Transcript (c ++ e ∷ []) (sent ++ more_sent) (came ++ more_came) after
 one_more c e sent came more_sent more_came after first turn =
     joins c (e ∷ []) sent came more_sent more_came after first (record {
       first_sent = more_sent;
@@ -115,7 +115,7 @@ turn_more (Some answer) request sent came text after answered reply turn = recor
   body = turn.body ∙ ap body_in (sym (append_assoc (texts turn.replies) text after) ∙ ap (λ s. s ++ after) (sym (texts_last turn.replies text)));
 }
 
-nothing_later : (e : Exchange) (sent came after : List ℕ) (s : SpokeMore (λ s t. Spoke [] s t after) e sent came after) → Turn e sent came after
+nothing_later : (e : Exchange) (sent came after : List ℕ) (s : TranscriptMore (λ s t. Transcript [] s t after) e sent came after) → Turn e sent came after
 nothing_later e sent came after s =
     let no_out = s.later.0 in
     let no_in = s.later.1 in
@@ -125,7 +125,7 @@ nothing_later e sent came after s =
     (subst (λ t. TurnBy e.answer e.request s.first_sent t after) (sym in_bytes)
     (turn_by e.answer e.request s.first_sent s.first_came _ _ (ap (λ t. t ++ after) no_in) s.first))
 
-alone : (e : Exchange) (sent came after : List ℕ) → Turn e sent came after → Spoke (e ∷ []) sent came after
+alone : (e : Exchange) (sent came after : List ℕ) → Turn e sent came after → Transcript (e ∷ []) sent came after
 alone e sent came after turn = record {
   first_sent = sent;
   later_sent = [];
@@ -139,7 +139,7 @@ alone e sent came after turn = record {
 
 -- one more request for a piece, of the last exchange
 pub asks_more : (c : List Exchange) (sent came text after : List ℕ) → ends_answered c ≡ true → IsReply text
-    → Spoke c sent came (text ++ after) → Spoke c (sent ++ more_text) (came ++ text) after
+    → Transcript c sent came (text ++ after) → Transcript c (sent ++ more_text) (came ++ text) after
 asks_more [] sent came text after answered reply spoke = absurd (cc answered)
 asks_more (e ∷ []) sent came text after answered reply spoke =
     alone e (sent ++ more_text) (came ++ text) after (turn_more e.answer e.request sent came text after answered reply (nothing_later e sent came (text ++ after) spoke))

@@ -1,11 +1,11 @@
 -- One question to the host: a frame is sent, and a frame is received.
 use Rattle.std.specs.Prelude.{◌≡◌, ℕ, List, [], Option, Some, None, Result, Ok, Err}
-use Rattle.json_values.specs.Tray.{Tray, Adds}
-use Rattle.pull_edge.specs.Source.{Spring, Takes}
+use Rattle.json_values.specs.SinkState.{SinkState, Adds}
+use Rattle.pull_edge.specs.Source.{SourceState, Takes}
 use Rattle.oci_transport.specs.declared.message.Request.{Request}
 use Rattle.oci_transport.specs.declared.message.AnswerHead.{AnswerHead}
 use Rattle.live_link.specs.Requests.{request_text, more_text}
-use Rattle.live_link.specs.Spoken.{Replies}
+use Rattle.live_link.specs.Transcript.{Replies}
 use Rattle.live_link.specs.State.{breach_in}
 use Rattle.live_link.specs.declared.replies.Reply.{Reply}
 use Rattle.live_link.specs.declared.replies.Reply.TheVariants.{Answer, Piece, End, Failed, Other}
@@ -15,22 +15,22 @@ use Rattle.live_link.specs.declared.stage.Stage.{Stage}
 use Rattle.live_link.specs.declared.stage.Stage.TheVariants.{Ended, Open, Cut, Broken}
 
 -- this text was sent, and this reply was received
-pub record Asked (text : List ℕ) (reply : Reply) (s t : Spring) (k l : Tray) : Type 0 where
+pub record Asked (text : List ℕ) (reply : Reply) (s t : SourceState) (k l : SinkState) : Type 0 where
   pub came : List ℕ
   pub sent : Adds text k l
   pub replied : Replies reply came
   pub taken : Takes came s t
 
 -- anything was sent and received
-pub record Lost (s t : Spring) (k l : Tray) : Type 0 where
+pub record Unknown (s t : SourceState) (k l : SinkState) : Type 0 where
   pub front : List ℕ
   pub came : List ℕ
   pub sent : Adds front k l
   pub taken : Takes came s t
 
-abbrev pub Asks : List ℕ → Result Reply Breach → Spring → Spring → Tray → Tray → Type 0
+abbrev pub Asks : List ℕ → Result Reply Breach → SourceState → SourceState → SinkState → SinkState → Type 0
 Asks text (Ok reply) s t k l = Asked text reply s t k l
-Asks text (Err breach) s t k l = Lost s t k l
+Asks text (Err breach) s t k l = Unknown s t k l
 
 -- the stage of a request that is not sent
 abbrev pub unsent : Stage → Stage
@@ -58,14 +58,14 @@ piece_after (Ok Other) = (Broken Frame, None)
 piece_after (Err breach) = (Broken breach, None)
 
 -- a request was not sent, or was sent with this outcome
-pub data Sends (request : Request) (stage : Stage) (r : Stage × Option AnswerHead) (s t : Spring) (k l : Tray)
+pub data Sends (request : Request) (stage : Stage) (r : Stage × Option AnswerHead) (s t : SourceState) (k l : SinkState)
     : Type 0 where
   not_sent : r ≡ (unsent stage, None) → t ≡ s → l ≡ k → Sends request stage r s t k l
   was_sent : (reply : Result Reply Breach) → breach_in stage ≡ None → r ≡ head_after reply
       → Asks (request_text request) reply s t k l → Sends request stage r s t k l
 
 -- a piece was requested, with this outcome
-pub record Gives (r : Stage × Option (List ℕ)) (s t : Spring) (k l : Tray) : Type 0 where
+pub record PieceReply (r : Stage × Option (List ℕ)) (s t : SourceState) (k l : SinkState) : Type 0 where
   pub reply : Result Reply Breach
   pub is : r ≡ piece_after reply
   pub asks : Asks more_text reply s t k l

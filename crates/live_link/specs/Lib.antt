@@ -4,5 +4,5 @@ pub mod Heads
 pub mod Replies
 pub mod Requests
 pub mod Shown
-pub mod Spoken
+pub mod Transcript
 pub mod State

@@ -3,15 +3,15 @@ use Rattle.std.specs.Prelude.{◌≡◌, ℕ, Bool, true, false, List, [], ◌�
 use Rattle.std.specs.Prelude.{unwrap_or, is_some}
 use Rattle.std.specs.FinMap.{empty}
 use Rattle.std.specs.List.{flat_map}
-use Rattle.json_values.specs.Tray.{Tray}
-use Rattle.pull_edge.specs.Source.{Spring}
+use Rattle.json_values.specs.SinkState.{SinkState}
+use Rattle.pull_edge.specs.Source.{SourceState}
 use Rattle.oci_transport.specs.Link.{answer_of}
 use Rattle.oci_transport.specs.declared.message.Method.TheVariants.{Get}
 use Rattle.oci_transport.specs.declared.message.Request.{Request}
 use Rattle.oci_transport.specs.declared.message.Exchange.{Exchange}
 use Rattle.http_server.specs.declared.log.Log.{Log}
 use Rattle.live_link.specs.Bodies.{body_in}
-use Rattle.live_link.specs.Spoken.{Spoke}
+use Rattle.live_link.specs.Transcript.{Transcript}
 use Rattle.live_link.specs.declared.stage.Breach.{Breach}
 use Rattle.live_link.specs.declared.stage.Stage.{Stage}
 use Rattle.live_link.specs.declared.stage.Stage.TheVariants.{Ended, Open, Cut, Broken}
@@ -43,8 +43,8 @@ exchange_in left entry = record {
 }
 
 -- the exchanges of a history, each with the source as it was when its head was read
-abbrev pub exchanges_by : {S : Type 0} → (S → Spring) → List (S × Log Request Heard) → List Exchange
-exchanges_by spring items = flat_map (λ item. map (exchange_in (spring item.0).left) item.1.items) items
+abbrev pub exchanges_by : {S : Type 0} → (S → SourceState) → List (S × Log Request Heard) → List Exchange
+exchanges_by source_state items = flat_map (λ item. map (exchange_in (source_state item.0).left) item.1.items) items
 
 abbrev pub is_answered : Exchange → Bool
 is_answered e = is_some e.answer
@@ -72,9 +72,10 @@ told_from (Some taken) (Some left) c = Some (opening taken left ∷ c)
 
 -- exchanges are exposed if source and sink exposed their bytes at the beginning
 abbrev pub told_since : {S K : Type 0}
-    → (S → Spring) → (K → Tray) → List (S × K) → List Exchange → Option (List Exchange)
-told_since spring tray [] c = None
-told_since spring tray (first ∷ later) c = told_from (tray first.1).taken (spring first.0).left c
+    → (S → SourceState) → (K → SinkState) → List (S × K) → List Exchange → Option (List Exchange)
+told_since source_state sink_state [] c = None
+told_since source_state sink_state (first ∷ later) c = told_from (sink_state first.1).taken
+    (source_state first.0).left c
 
 -- what is left of the last response's body, if the source exposes that
 abbrev pub rest_in : Stage → Option (List ℕ) → Option (List ℕ)
@@ -85,29 +86,31 @@ rest_in (Broken why) left = Some []
 
 -- All that was sent and received since, if source and sink exposed their bytes: the frames of these exchanges and, if
 -- something broke the streams, bytes outside of all frames after them.
-pub record Held (taken left : List ℕ) (tray : Tray) (spring : Spring) (breach : Option Breach) (c : List Exchange)
+pub record Held (taken left : List ℕ) (sink_state : SinkState) (source_state : SourceState) (breach : Option Breach)
+    (c : List Exchange)
     : Type 0 where
   pub sent : List ℕ
   pub came : List ℕ
   pub lost_out : List ℕ
   pub lost_in : List ℕ
   pub after : List ℕ
-  pub took : tray.taken ≡ Some (taken ++ (sent ++ lost_out))
-  pub leaves : spring.left ≡ Some after
+  pub took : sink_state.taken ≡ Some (taken ++ (sent ++ lost_out))
+  pub leaves : source_state.left ≡ Some after
   pub gave : left ≡ came ++ (lost_in ++ after)
-  pub spoke : Spoke c sent came (lost_in ++ after)
+  pub spoke : Transcript c sent came (lost_in ++ after)
   pub in_step : breach ≡ None → (lost_out ≡ []) × (lost_in ≡ [])
 
 -- while a body is read, the last exchange has a response
-pub record HeldAt (taken left : List ℕ) (tray : Tray) (spring : Spring) (stage : Stage) (c : List Exchange)
+pub record HeldAt (taken left : List ℕ) (sink_state : SinkState) (source_state : SourceState) (stage : Stage)
+    (c : List Exchange)
     : Type 0 where
-  pub held : Held taken left tray spring (breach_in stage) c
+  pub held : Held taken left sink_state source_state (breach_in stage) c
   pub answered : is_open stage ≡ true → ends_answered c ≡ true
 
 -- the same if the beginning is in a history
 abbrev pub Holds : {S K : Type 0}
-    → (S → Spring) → (K → Tray) → List (S × K) → S → K → Stage → List Exchange → Type 0
-Holds spring tray [] source sink stage c = Unit {0}
-Holds spring tray (first ∷ later) source sink stage c =
-    (taken left : List ℕ) → (tray first.1).taken ≡ Some taken → (spring first.0).left ≡ Some left
-    → HeldAt taken left (tray sink) (spring source) stage c
+    → (S → SourceState) → (K → SinkState) → List (S × K) → S → K → Stage → List Exchange → Type 0
+Holds source_state sink_state [] source sink stage c = Unit {0}
+Holds source_state sink_state (first ∷ later) source sink stage c =
+    (taken left : List ℕ) → (sink_state first.1).taken ≡ Some taken → (source_state first.0).left ≡ Some left
+    → HeldAt taken left (sink_state sink) (source_state source) stage c

@@ -2,7 +2,7 @@
 ghost use Rattle.std.specs.Prelude.{◌≡◌, [], false, is_some};
 ghost use Rattle.serde_json.specs.Written.{has_float};
 ghost use Rattle.live_frames.specs.Writing.{frame_text};
-ghost use Rattle.live_link.specs.Asking.{Asks, Sends, Gives, unsent, head_after, piece_after};
+ghost use Rattle.live_link.specs.Asking.{Asks, Sends, PieceReply, unsent, head_after, piece_after};
 ghost use Rattle.live_link.specs.State.{breach_in};
 ghost use Rattle.live_link.specs.Requests.{request_data, more_data};
 
@@ -61,7 +61,7 @@ pub(crate) fn ask_piece<S: Source, K: Sink>(
     object: &Json,
 ) -> (Stage, Option<Blob>)
     requires exact { object.now ≡ more_data }
-    ensures { Gives result
+    ensures { PieceReply result
         (S.state source.old) (S.state source.new) (K.state sink.old) (K.state sink.new) }
 {
     let reply = ask(alloc, source, sink, object);

@@ -2,7 +2,7 @@
 ghost use Rattle.std.specs.Prelude.{◌≡◌, IfOk, codes};
 ghost use Rattle.std.specs.FinMap.{empty};
 ghost use Rattle.serde_json.specs.View.{view};
-ghost use Rattle.json_tables.specs.Outcomes.{Gives};
+ghost use Rattle.json_tables.specs.Outcomes.{ReadsTo};
 ghost use Rattle.json_tables.specs.Member.{required};
 ghost use Rattle.live_link.specs.Heads.{answer_head_of, status_of, headers_of, with_headers, Adds};
 ghost use Rattle.live_link.specs.Replies.{reply_of, piece_reply, plain_reply, answer_reply};
@@ -78,7 +78,7 @@ fn answer_reply(alloc: Global, head: &Value) -> Result<Reply, AllocError>
 // Parses the head of a response.
 #[tactic(auto, unfolding(crate::specs::Heads::answer_head_of))]
 fn read_head(alloc: Global, value: &Value) -> Result<AnswerHead, ReadError>
-    ensures { Gives result (answer_head_of (view value.now)) }
+    ensures { ReadsTo result (answer_head_of (view value.now)) }
 {
     only(value, &["frame", "status", "headers"])?;
     let status = read_status(alloc, value)?;
@@ -88,7 +88,7 @@ fn read_head(alloc: Global, value: &Value) -> Result<AnswerHead, ReadError>
 
 // Parses the status, a number from 100 to 999.
 fn read_status(alloc: Global, value: &Value) -> Result<u16, ReadError>
-    ensures { Gives result (required status_of (codes "status") (view value.now)) }
+    ensures { ReadsTo result (required status_of (codes "status") (view value.now)) }
 {
     let status: u16 = required(alloc, value, "status")?;
     if status < 100 || status > 999 {
@@ -99,7 +99,7 @@ fn read_status(alloc: Global, value: &Value) -> Result<u16, ReadError>
 
 // Parses the headers, a list of pairs of a name and a value.
 fn read_headers(alloc: Global, value: &Value) -> Result<Headers, ReadError>
-    ensures { Gives result (required headers_of (codes "headers") (view value.now)) }
+    ensures { ReadsTo result (required headers_of (codes "headers") (view value.now)) }
 {
     let pairs: List<(Text, Blob)> = required(alloc, value, "headers")?;
     let headers = headers_from(alloc, pairs.as_slice())?;
@@ -107,7 +107,7 @@ fn read_headers(alloc: Global, value: &Value) -> Result<Headers, ReadError>
 }
 
 fn headers_from(alloc: Global, pairs: &[(Text, Blob)]) -> Result<Headers, ReadError>
-    ensures { Gives result (with_headers empty pairs.now) }
+    ensures { ReadsTo result (with_headers empty pairs.now) }
 {
     let mut headers = Headers::new(alloc);
     for (name, value) in pairs {

@@ -60,7 +60,7 @@ impl<S: Source, K: Sink> StreamTransport<S, K> {
 
     /// Returns the streams. The bytes sent and received since the beginning are the frames of the exposed exchanges.
     pub fn finish(self) -> (S, K)
-        ensures spoke { (taken left : List ℕ) (c : List Exchange)
+        ensures transcript { (taken left : List ℕ) (c : List Exchange)
             → (state_of self).told ≡ Some (opening taken left ∷ c)
             → ∥ Held taken left (K.state result.1) (S.state result.0) (breach_of self) c ∥₁ }
     {

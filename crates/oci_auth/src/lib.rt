@@ -3,18 +3,18 @@
 #![tactic(auto)]
 
 mod auth;
+mod auth_state;
 mod cache;
 mod expiration;
 mod kept;
-mod memory;
 mod shown;
 mod token;
 mod token_type;
 
 pub use auth::RegistryAuth;
+pub use auth_state::{AuthState, store};
 pub use cache::TokenCache;
 pub use expiration::bearer_token_cache_expiration;
-pub use memory::{Memory, store};
 pub use shown::write_basic;
 pub use token::{RegistryToken, TokenError};
 pub use token_type::{RegistryOperation, RegistryTokenType};

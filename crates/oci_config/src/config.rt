@@ -1,7 +1,7 @@
 //! How a container is started.
 ghost use Rattle.std.specs.Prelude.{◌≡◌, IfOk, Ok};
 ghost use Rattle.serde_json.specs.View.{view};
-ghost use Rattle.json_tables.specs.Outcomes.{Gives, ReadsDocument};
+ghost use Rattle.json_tables.specs.Outcomes.{ReadsTo, ReadsDocument};
 ghost use Rattle.oci_config.specs.Config.{config_members};
 
 use json_tables::{ReadError, Reads, an_object, read_document, read_row};
@@ -76,7 +76,7 @@ impl Reads for Config {
 
 #[tactic(auto, unfolding(crate::specs::Config::config_members))]
 fn config_members(alloc: Global, value: &Value) -> Result<Config, ReadError>
-    ensures { Gives result (config_members (view value.now)) }
+    ensures { ReadsTo result (config_members (view value.now)) }
 {
     let row![
         user,

@@ -1,6 +1,6 @@
 ghost use Rattle.std.specs.Prelude.{◌≡◌, ◌↔◌, IfOk, IsTrue, Ok};
 ghost use Rattle.serde_json.specs.View.{view};
-ghost use Rattle.json_tables.specs.Outcomes.{Gives, ReadsDocument};
+ghost use Rattle.json_tables.specs.Outcomes.{ReadsTo, ReadsDocument};
 ghost use Rattle.oci_config.specs.History.{history_members};
 
 use json_tables::{ReadError, Reads, an_object, read_document, read_row};
@@ -64,7 +64,7 @@ impl Reads for History {
 
 #[tactic(auto, unfolding(crate::specs::History::history_members))]
 fn history_members(alloc: Global, value: &Value) -> Result<History, ReadError>
-    ensures { Gives result (history_members (view value.now)) }
+    ensures { ReadsTo result (history_members (view value.now)) }
 {
     let row![created, author, created_by, comment, empty_layer] = read_row::<History, _>(
         alloc,

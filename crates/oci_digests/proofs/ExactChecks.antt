@@ -4,7 +4,7 @@ use Rattle.std.proofs.lemmas.Slice.Eq.{bytes_eq-Decides}
 use Rattle.std.proofs.lemmas.Bool.{lt-ltb}
 use Rattle.hex.specs.Hex.{encode_lower}
 use Rattle.oci_digests.specs.Checks.{and_then, checked_by, checked, both_checked, both_validated, validated}
-use Rattle.oci_digests.specs.Error.{is_memory, Says}
+use Rattle.oci_digests.specs.Error.{is_memory, Matches}
 use Rattle.oci_digests.specs.Names.{Names, digest_text, name_of, hash_of}
 use Rattle.oci_digests.specs.Checks.{parts_of, named_by, named_algorithm}
 use Rattle.oci_digests.specs.Validates.{Validates}
@@ -112,7 +112,7 @@ is_validated body (Some h) (Some r) text v =
     ∙ both_pass (bytes_eq h r) body h r v.header_names v.reference_names
     ∙ ap Ok (sym v.answer)
 
-pub ok_of : (body : List ℕ) (header reference : Option (List ℕ)) (result : Result (List ℕ) DigestError) → Says result (validated body header reference) → IfOk result (Validates body header reference)
+pub ok_of : (body : List ℕ) (header reference : Option (List ℕ)) (result : Result (List ℕ) DigestError) → Matches result (validated body header reference) → IfOk result (Validates body header reference)
 ok_of body header reference (Ok text) says = validates body header reference text says
 ok_of body header reference (Err e) says = tt
 
@@ -120,7 +120,7 @@ told : (b : Bool) (P : Type 0) → MatchBool b (Unit {0}) P → b ≡ false → 
 told true P m e = absurd (true≢false e)
 told false P m e = m
 
-pub err_of : (body : List ℕ) (header reference : Option (List ℕ)) (result : Result (List ℕ) DigestError) → Says result (validated body header reference)
+pub err_of : (body : List ℕ) (header reference : Option (List ℕ)) (result : Result (List ℕ) DigestError) → Matches result (validated body header reference)
     → IfErr result (λ e. is_memory e ≡ false → (text : List ℕ) → Validates body header reference text → ⊥)
 err_of body header reference (Ok text) says = tt
 err_of body header reference (Err e) says = λ not_memory text v.

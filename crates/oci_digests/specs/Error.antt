@@ -10,5 +10,5 @@ is_memory WantOfMemory = true
 is_memory _ = false
 
 -- the result is this one, or out of memory
-abbrev pub Says : {A : Type 0} → Result A DigestError → Result A DigestError → Type 0
-Says answer said = Refusals.Says is_memory answer said
+abbrev pub Matches : {A : Type 0} → Result A DigestError → Result A DigestError → Type 0
+Matches answer said = Refusals.Matches is_memory answer said

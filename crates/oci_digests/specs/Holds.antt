@@ -21,7 +21,7 @@ abbrev pub Holds : Digester → Algorithm → List ℕ → Type 0
 Holds d a m = HasherHolds d.hasher a m
 
 -- a new digester of the algorithm, or the error, or out of memory
-abbrev pub SaysDigester : Result Digester DigestError → Result Algorithm DigestError → Type 0
-SaysDigester (Ok d) (Ok a) = Holds d a []
-SaysDigester (Ok d) (Err e) = ⊥
-SaysDigester (Err e) said = MatchBool (is_memory e) (Unit {0}) (said ≡ Err e)
+abbrev pub MatchesDigester : Result Digester DigestError → Result Algorithm DigestError → Type 0
+MatchesDigester (Ok d) (Ok a) = Holds d a []
+MatchesDigester (Ok d) (Err e) = ⊥
+MatchesDigester (Err e) said = MatchBool (is_memory e) (Unit {0}) (said ≡ Err e)

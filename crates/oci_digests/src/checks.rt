@@ -2,7 +2,7 @@
 ghost use Rattle.std.specs.Prelude.{◌≡◌, true, false, ℕ, List, Some, MatchOption, IfOk, IfErr};
 ghost use Rattle.std.specs.Option.{option_copied};
 ghost use Rattle.oci_digests.specs.Checks.{checked, validated, header_digest, is_header_text};
-ghost use Rattle.oci_digests.specs.Error.{Says, is_memory};
+ghost use Rattle.oci_digests.specs.Error.{Matches, is_memory};
 ghost use Rattle.oci_digests.specs.Checks.{algorithm_of, named_algorithm};
 ghost use Rattle.oci_digests.specs.Validates.{Validates, ValidatesNone};
 
@@ -29,7 +29,7 @@ fn algorithm_of(name: &str) -> Option<Algorithm>
 
 /// Returns the algorithm that a digest text names.
 pub fn named_algorithm(alloc: Global, text: &str) -> Result<Algorithm, DigestError>
-    ensures { Says result (named_algorithm text.now) }
+    ensures { Matches result (named_algorithm text.now) }
 {
     let parts = Digest::new(text)?;
     match algorithm_of(parts.algorithm) {
@@ -40,7 +40,7 @@ pub fn named_algorithm(alloc: Global, text: &str) -> Result<Algorithm, DigestErr
 
 // Returns the text, if it names the body.
 fn check(alloc: Global, body: &[u8], text: &str) -> Result<Text, DigestError>
-    ensures { Says result (checked body.now text.now) }
+    ensures { Matches result (checked body.now text.now) }
 {
     let algorithm = named_algorithm(alloc, text)?;
     let actual = digest_text(alloc, algorithm, body)?;
@@ -63,7 +63,7 @@ pub fn validate_digest(
     digest_header: Option<&str>,
     reference_digest: Option<&str>,
 ) -> Result<Text, DigestError>
-    ensures says { Says result (validated body.now
+    ensures exact { Matches result (validated body.now
         (option_copied digest_header.entry) (option_copied reference_digest.entry)) }
     ensures ok { IfOk result (Validates body.now
         (option_copied digest_header.entry) (option_copied reference_digest.entry)) }
@@ -79,7 +79,7 @@ fn check_given(
     digest_header: Option<&str>,
     reference_digest: Option<&str>,
 ) -> Result<Text, DigestError>
-    ensures { Says result (validated body.now
+    ensures { Matches result (validated body.now
         (option_copied digest_header.entry) (option_copied reference_digest.entry)) }
 {
     match (digest_header, reference_digest) {
@@ -96,7 +96,7 @@ fn check_both(
     header: &str,
     reference: &str,
 ) -> Result<Text, DigestError>
-    ensures { Says result (validated body.now (Some header.now) (Some reference.now)) }
+    ensures { Matches result (validated body.now (Some header.now) (Some reference.now)) }
 {
     Digest::new(header)?;
     Digest::new(reference)?;
@@ -134,7 +134,7 @@ fn is_header_text(value: &[u8]) -> bool
 /// Returns the digest in the value of the first `Docker-Content-Digest` header (OCI distribution specification,
 /// "Pulling manifests"): `None` if the header is missing or empty. Returns `InvalidHeader` if it is not text.
 pub fn digest_header_value(alloc: Global, value: Option<&[u8]>) -> Result<Option<Text>, DigestError>
-    ensures { Says result (header_digest (option_copied value.entry)) }
+    ensures { Matches result (header_digest (option_copied value.entry)) }
 {
     let Some(value) = value else {
         return Ok(None);

@@ -38,7 +38,7 @@ pub struct Digester {
 }
 
 impl Digester {
-    ghost use Rattle.oci_digests.specs.Holds.{Holds, SaysDigester};
+    ghost use Rattle.oci_digests.specs.Holds.{Holds, MatchesDigester};
     ghost use Rattle.oci_digests.specs.Checks.{named_algorithm};
     ghost use Rattle.oci_digests.specs.Names.{digest_text};
 
@@ -47,7 +47,7 @@ impl Digester {
     /// Returns `MissingAlgorithm` if the text has no colon, `UnsupportedAlgorithm` if the part before the first colon
     /// is not `sha256`, `sha384` or `sha512`.
     pub fn new(alloc: Global, digest: &str) -> Result<Digester, DigestError>
-        ensures { SaysDigester result (named_algorithm digest.now) }
+        ensures { MatchesDigester result (named_algorithm digest.now) }
     {
         let algorithm = named_algorithm(alloc, digest)?;
         Ok(Digester::of(algorithm))

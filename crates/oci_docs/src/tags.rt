@@ -1,6 +1,6 @@
 ghost use Rattle.std.specs.Prelude.{option_map};
 ghost use Rattle.serde_json.specs.View.{view};
-ghost use Rattle.json_tables.specs.Outcomes.{Gives, ReadsDocument};
+ghost use Rattle.json_tables.specs.Outcomes.{ReadsTo, ReadsDocument};
 ghost use Rattle.oci_docs.specs.Tags.{tags_of};
 
 use json_tables::{ReadError, Reads, read_document, required};
@@ -42,7 +42,7 @@ impl Reads for TagResponse {
 }
 
 fn tags_in(alloc: Global, member: Option<&Value>) -> Result<List<Text>, ReadError>
-    ensures { Gives result (tags_of (option_map (λ v. view v.now) member.entry)) }
+    ensures { ReadsTo result (tags_of (option_map (λ v. view v.now) member.entry)) }
 {
     match member {
         None => Err(ReadError::Shape),

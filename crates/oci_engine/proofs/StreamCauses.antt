@@ -3,7 +3,7 @@ use Rattle.std.proofs.Common.{◌≡◌, ◌≢◌, inl, inr, ℕ, ◌+◌, ◌-
 use Rattle.std.specs.Prelude.{◌&&◌, ◌||◌, decimal, nat_lt, if◌then◌else◌}
 use Rattle.std.specs.List.{Contains}
 use Rattle.std.proofs.lemmas.Bool.{ltb-false}
-use Rattle.json_values.specs.Counts.{Rose}
+use Rattle.json_values.specs.Counts.{Increased}
 use Rattle.oci_transport.specs.Headers.{Fields, added, held, is_header_value}
 use Rattle.oci_transport.specs.Link.{Link, answer_of}
 use Rattle.oci_transport.specs.Urls.{request_url}
@@ -13,13 +13,13 @@ use Rattle.oci_transport.specs.declared.message.Exchange.{Exchange}
 use Rattle.oci_transport.specs.declared.message.Method.TheVariants.{Get}
 use Rattle.oci_transport.specs.declared.message.Request.{Request}
 use Rattle.oci_names.specs.declared.reference.Reference.{Reference}
-use Rattle.oci_auth.specs.declared.memory.Memory.{Memory}
+use Rattle.oci_auth.specs.declared.auth_state.AuthState.{AuthState}
 use Rattle.oci_auth.specs.declared.token_type.RegistryOperation.TheVariants.{Pull}
 use Rattle.oci_digests.specs.declared.error.DigestError.{DigestError}
 use Rattle.oci_protocol.specs.Proto.{Piped, limit_of, Reply, Headed, Answered, Failed, TooLong, SinkFailed, Done, ◌>>=◌}
 use Rattle.oci_protocol.specs.Runs.{Runs, Meets, Told, head_part}
-use Rattle.oci_protocol.specs.Shows.{Shows, ByAnswer, Heard}
-use Rattle.oci_protocol.proofs.RunFacts.{done_run, Shows-done, Shows-more, Shows-each, Shows-step, Shows-follow}
+use Rattle.oci_protocol.specs.EveryRun.{EveryRun, ByResult, Heard}
+use Rattle.oci_protocol.proofs.RunFacts.{done_run, EveryRun-done, EveryRun-more, EveryRun-each, EveryRun-step, EveryRun-follow}
 use Rattle.engine_requests.specs.Addresses.{blob_text, url_read}
 use Rattle.engine_answers.specs.Answers.{header_digest, is_error, is_success, or_digest_error, refused_answer}
 use Rattle.engine_answers.specs.Blobs.{digest_expected}
@@ -80,24 +80,24 @@ never_piped limit n false is = cc is
 abbrev MadeCause : {A : Type 0} → List ℕ → (AnswerHead → Result A OciDistributionError) → Type 0
 MadeCause digest made = (head : AnswerHead) (body address : List ℕ) (e : OciDistributionError) → made head ≡ Err e → AnswerCause (AskedDigest digest) address (answer_of head body) e
 
-judged_causes : {A : Type 0} (T : Act → Type 0) (s : Settings) (digest : List ℕ) (takes : AnswerHead → Bool) (made : AnswerHead → Result A OciDistributionError) (request : Request) → T (Sends request) → ((head : AnswerHead) → takes head ≡ false → head.status ≢ 200) → MadeCause digest made → Shows (ByAnswer (Any {A = A}) (Shown T s digest)) (judged s.max_body_bytes takes made request)
+judged_causes : {A : Type 0} (T : Act → Type 0) (s : Settings) (digest : List ℕ) (takes : AnswerHead → Bool) (made : AnswerHead → Result A OciDistributionError) (request : Request) → T (Sends request) → ((head : AnswerHead) → takes head ≡ false → head.status ≢ 200) → MadeCause digest made → EveryRun (ByResult (Any {A = A}) (Shown T s digest)) (judged s.max_body_bytes takes made request)
 unfolding judged judged_reading
-judged_causes {A} T s digest takes made request own other cause = Shows-follow (ByAnswer (Any {A = A}) (Shown T s digest)) 10 request (judged_reading s.max_body_bytes takes) (judged_reply made) by_reply where
-  by_made : (m after : ℕ) (c : List Exchange) (address : List ℕ) (head : AnswerHead) (body : List ℕ) (r : Result A OciDistributionError) → made head ≡ r → LastAnswer T c address (answer_of head body) → ByAnswer (Any {A = A}) (Shown T s digest) m c after r
+judged_causes {A} T s digest takes made request own other cause = EveryRun-follow (ByResult (Any {A = A}) (Shown T s digest)) 10 request (judged_reading s.max_body_bytes takes) (judged_reply made) by_reply where
+  by_made : (m after : ℕ) (c : List Exchange) (address : List ℕ) (head : AnswerHead) (body : List ℕ) (r : Result A OciDistributionError) → made head ≡ r → LastAnswer T c address (answer_of head body) → ByResult (Any {A = A}) (Shown T s digest) m c after r
   by_made m after c address head body (Ok a) is last = tt
   by_made m after c address head body (Err e) is last = answer_cause T (AskedDigest digest) s manifest_types after c address (answer_of head body) e last (cause head body address e is)
 
-  by_reply : (k l : Memory) (m after o : ℕ) (c d : List Exchange) (last : Request) (reply : Reply) (r : Result A OciDistributionError) → Heard 10 request (judged_reading s.max_body_bytes takes) m c after last reply → Runs (judged_reply made last reply) k after d o l r → ByAnswer (Any {A = A}) (Shown T s digest) m (c ++ d) o r
+  by_reply : (k l : AuthState) (m after o : ℕ) (c d : List Exchange) (last : Request) (reply : Reply) (r : Result A OciDistributionError) → Heard 10 request (judged_reading s.max_body_bytes takes) m c after last reply → Runs (judged_reply made last reply) k after d o l r → ByResult (Any {A = A}) (Shown T s digest) m (c ++ d) o r
   by_reply k l m after o c d last (Headed head) r h run =
       let b = h.replies.reply_is in
-      done_run (λ start d o r. ByAnswer (Any {A = A}) (Shown T s digest) m (c ++ d) o r) (made head) k l after o d r
-      (subst (λ x. ByAnswer (Any {A = A}) (Shown T s digest) m x after (made head)) (sym (append-nil c)) (by_made m after c last.url head b.0 (made head) refl (heard_answer T h own (answer_of head b.0) b.1 h.settles))) run
+      done_run (λ start d o r. ByResult (Any {A = A}) (Shown T s digest) m (c ++ d) o r) (made head) k l after o d r
+      (subst (λ x. ByResult (Any {A = A}) (Shown T s digest) m x after (made head)) (sym (append-nil c)) (by_made m after c last.url head b.0 (made head) refl (heard_answer T h own (answer_of head b.0) b.1 h.settles))) run
   by_reply k l m after o c d last (Answered answer) r h run =
       let b = h.replies.reply_is in
-      done_run (λ start d o r. ByAnswer (Any {A = A}) (Shown T s digest) m (c ++ d) o r) (Err (refused_answer 200 last.url answer)) k l after o d r
-      (subst (λ x. ByAnswer (Any {A = A}) (Shown T s digest) m x after (Err (refused_answer 200 last.url answer))) (sym (append-nil c)) (answer_cause T (AskedDigest digest) s manifest_types after c last.url answer (refused_answer 200 last.url answer) (heard_answer T h own answer b.1 h.settles) (status_cause (AskedDigest digest) last.url answer (other (head_part answer) (reads_not s.max_body_bytes b.0 (takes (head_part answer)) b.2))))) run
-  by_reply k l m after o c d last Failed r h run = done_run (λ start d o r. ByAnswer (Any {A = A}) (Shown T s digest) m (c ++ d) o r) (Err refusal.TransportFault) k l after o d r (rw append-nil (heard_failed T h own)) run
-  by_reply k l m after o c d last TooLong r h run = done_run (λ start d o r. ByAnswer (Any {A = A}) (Shown T s digest) m (c ++ d) o r) (Err refusal.BodyTooLong) k l after o d r (rw append-nil (heard_long T h s.max_body_bytes own (λ n head is. limit_is s.max_body_bytes n (takes head) is))) run
+      done_run (λ start d o r. ByResult (Any {A = A}) (Shown T s digest) m (c ++ d) o r) (Err (refused_answer 200 last.url answer)) k l after o d r
+      (subst (λ x. ByResult (Any {A = A}) (Shown T s digest) m x after (Err (refused_answer 200 last.url answer))) (sym (append-nil c)) (answer_cause T (AskedDigest digest) s manifest_types after c last.url answer (refused_answer 200 last.url answer) (heard_answer T h own answer b.1 h.settles) (status_cause (AskedDigest digest) last.url answer (other (head_part answer) (reads_not s.max_body_bytes b.0 (takes (head_part answer)) b.2))))) run
+  by_reply k l m after o c d last Failed r h run = done_run (λ start d o r. ByResult (Any {A = A}) (Shown T s digest) m (c ++ d) o r) (Err refusal.TransportFault) k l after o d r (rw append-nil (heard_failed T h own)) run
+  by_reply k l m after o c d last TooLong r h run = done_run (λ start d o r. ByResult (Any {A = A}) (Shown T s digest) m (c ++ d) o r) (Err refusal.BodyTooLong) k l after o d r (rw append-nil (heard_long T h s.max_body_bytes own (λ n head is. limit_is s.max_body_bytes n (takes head) is))) run
   by_reply k l m after o c d last SinkFailed r h run = let b = h.replies.reply_is in absurd (never_piped s.max_body_bytes b.1 (takes (head_part b.0)) b.3)
 
 -- ---- what a head states
@@ -190,21 +190,21 @@ ranged_place_own range s image layer p has next is =
     let made = into_ok (asked_at s p) (with_range (onward range)) next is in
     inr (made.0, listed_own s layer.urls p made.0 has made.1, made.2)
 
-later : {A : Type 0} (T : Act → Type 0) (s : Settings) (digest : List ℕ) (m start o : ℕ) (c d : List Exchange) (r : Result A OciDistributionError) → ByAnswer (Any {A = A}) (Shown T s digest) start d o r → ByAnswer (Any {A = A}) (Shown T s digest) m (c ++ d) o r
+later : {A : Type 0} (T : Act → Type 0) (s : Settings) (digest : List ℕ) (m start o : ℕ) (c d : List Exchange) (r : Result A OciDistributionError) → ByResult (Any {A = A}) (Shown T s digest) start d o r → ByResult (Any {A = A}) (Shown T s digest) m (c ++ d) o r
 later T s digest m start o c d (Ok a) h = tt
 later T s digest m start o c d (Err e) h = cause_later T T (AnswerCause (AskedDigest digest)) (AnswerCause (AskedDigest digest)) s manifest_types o c d e (λ text h. h) (λ address answer h. h) h
 
 -- a response that was found, or what comes next
-found_causes : (T : Act → Type 0) (s : Settings) (digest : List ℕ) (next : Row Opening) → Shows (ByAnswer Any (Shown T s digest)) next → (m : ℕ) (c : List Exchange) (found : Option Opening) → Shows (λ start d o r. ByAnswer Any (Shown T s digest) m (c ++ d) o r) (or_next next found)
-found_causes T s digest next h m c (Some o) = Shows-done (λ start d o r. ByAnswer Any (Shown T s digest) m (c ++ d) o r) (Ok o) (λ m. tt)
-found_causes T s digest next h m c None = Shows-more (ByAnswer Any (Shown T s digest)) (λ start d o r. ByAnswer Any (Shown T s digest) m (c ++ d) o r) next h (λ start o d r h. later T s digest m start o c d r h)
+found_causes : (T : Act → Type 0) (s : Settings) (digest : List ℕ) (next : Row Opening) → EveryRun (ByResult Any (Shown T s digest)) next → (m : ℕ) (c : List Exchange) (found : Option Opening) → EveryRun (λ start d o r. ByResult Any (Shown T s digest) m (c ++ d) o r) (or_next next found)
+found_causes T s digest next h m c (Some o) = EveryRun-done (λ start d o r. ByResult Any (Shown T s digest) m (c ++ d) o r) (Ok o) (λ m. tt)
+found_causes T s digest next h m c None = EveryRun-more (ByResult Any (Shown T s digest)) (λ start d o r. ByResult Any (Shown T s digest) m (c ++ d) o r) next h (λ start o d r h. later T s digest m start o c d r h)
 
-tried_causes : (T : Act → Type 0) (s : Settings) (range : Option ByteRange) (digest : List ℕ) (places : List Place) → EachPlace (λ p. Early T (ranged_at s range p)) places → EachPlace (λ p. (next : Request) → ranged_at s range p ≡ Ok next → T (Sends next)) places → (request : Request) → T (Sends request) → Shows (ByAnswer Any (Shown T s digest)) (tried s range digest places request)
+tried_causes : (T : Act → Type 0) (s : Settings) (range : Option ByteRange) (digest : List ℕ) (places : List Place) → EachPlace (λ p. Early T (ranged_at s range p)) places → EachPlace (λ p. (next : Request) → ranged_at s range p ≡ Ok next → T (Sends next)) places → (request : Request) → T (Sends request) → EveryRun (ByResult Any (Shown T s digest)) (tried s range digest places request)
 unfolding tried
 tried_causes T s range digest [] early others request own = judged_causes T s digest (streams range) (opening range digest) request own (not_taken range) (opening_cause range digest)
-tried_causes T s range digest (p ∷ ps) early others request own = Shows-each Any Any (Shown T s digest) (offered s.max_body_bytes range digest request) _ (judged_causes T s digest (streams_or_passes range) (opening_unless_error range digest) request own (not_passed range) (unless_cause range digest))
+tried_causes T s range digest (p ∷ ps) early others request own = EveryRun-each Any Any (Shown T s digest) (offered s.max_body_bytes range digest request) _ (judged_causes T s digest (streams_or_passes range) (opening_unless_error range digest) request own (not_passed range) (unless_cause range digest))
     (λ m n c found h. found_causes T s digest (Done (ranged_at s range p) >>= tried s range digest ps)
-    (Shows-step (ByAnswer Any (Shown T s digest)) (ranged_at s range p) (tried s range digest ps) (λ next is. tried_causes T s range digest ps early.1 others.1 next (others.0 next is)) (λ e is m. early_is T s digest m (ranged_at s range p) e early.0 is)) m c found)
+    (EveryRun-step (ByResult Any (Shown T s digest)) (ranged_at s range p) (tried s range digest ps) (λ next is. tried_causes T s range digest ps early.1 others.1 next (others.0 next is)) (λ e is m. early_is T s digest m (ranged_at s range p) e early.0 is)) m c found)
 
 -- ---- the whole row
 
@@ -215,7 +215,7 @@ loosened : (range : Option ByteRange) (T : Act → Type 0) (s : Settings) (diges
 loosened range T s digest m n c (refusal.GenericError RangeOverflow) h = absurd h.holds
 loosened range T s digest m n c _ h = h
 
-by_loosened : (range : Option ByteRange) (T : Act → Type 0) (s : Settings) (digest : List ℕ) (m n : ℕ) (c : List Exchange) (r : Result Opening OciDistributionError) → ByAnswer Any (Shown T s digest) m c n r → ByAnswer Any (Streamed range T s digest) m c n r
+by_loosened : (range : Option ByteRange) (T : Act → Type 0) (s : Settings) (digest : List ℕ) (m n : ℕ) (c : List Exchange) (r : Result Opening OciDistributionError) → ByResult Any (Shown T s digest) m c n r → ByResult Any (Streamed range T s digest) m c n r
 by_loosened range T s digest m n c (Ok o) h = tt
 by_loosened range T s digest m n c (Err e) h = loosened range T s digest m n c e h
 
@@ -236,10 +236,10 @@ range_overflows (Some range) e is = by_err ((e ≡ refusal.GenericError RangeOve
 overflow_cause : (range : Option ByteRange) (T : Act → Type 0) (s : Settings) (digest : List ℕ) (m : ℕ) (e : OciDistributionError) → (e ≡ refusal.GenericError RangeOverflow) × Overflows range → Streamed range T s digest m [] m e
 overflow_cause range T s digest m e h = subst (λ (x : OciDistributionError). Streamed range T s digest m [] m x) (sym h.0) (h.1, refl)
 
-pub opened_causes : (s : Context) (image : Reference) (layer : Layer) (range : Option ByteRange) → Shows (ByAnswer Any (Streamed range (StreamUrl range s.settings image layer) s.settings layer.digest)) (opened s image layer range)
+pub opened_causes : (s : Context) (image : Reference) (layer : Layer) (range : Option ByteRange) → EveryRun (ByResult Any (Streamed range (StreamUrl range s.settings image layer) s.settings layer.digest)) (opened s image layer range)
 unfolding opened
-opened_causes s image layer range = Shows-step (ByAnswer Any (Streamed range T s.settings layer.digest)) (range_text range) _
-    (λ text is. Shows-more (ByAnswer Any (Shown T s.settings layer.digest)) (ByAnswer Any (Streamed range T s.settings layer.digest)) _ (after text is) (λ m n c r h. by_loosened range T s.settings layer.digest m n c r h))
+opened_causes s image layer range = EveryRun-step (ByResult Any (Streamed range T s.settings layer.digest)) (range_text range) _
+    (λ text is. EveryRun-more (ByResult Any (Shown T s.settings layer.digest)) (ByResult Any (Streamed range T s.settings layer.digest)) _ (after text is) (λ m n c r h. by_loosened range T s.settings layer.digest m n c r h))
     (λ e is m. overflow_cause range T s.settings layer.digest m e (range_overflows range e is)) where
       T : Act → Type 0
       T = StreamUrl range s.settings image layer
@@ -250,13 +250,13 @@ opened_causes s image layer range = Shows-step (ByAnswer Any (Streamed range T s
       others : EachPlace (λ p. (next : Request) → ranged_at s.settings range p ≡ Ok next → T (Sends next)) (places_of layer.urls)
       others = each_more (OfUrls layer.urls) (λ p. (next : Request) → ranged_at s.settings range p ≡ Ok next → T (Sends next)) (ranged_place_own range s.settings image layer) (places_of layer.urls) (places_are layer.urls)
 
-      asks : (text : Option (List ℕ)) (m : ℕ) (c : List Exchange) (request : Request) → range_text range ≡ Ok text → AsksText s.settings (blob_text s.settings image layer.digest) request → Shows (λ start d o r. ByAnswer Any (Shown T s.settings layer.digest) m (c ++ d) o r) (Done (with_range text request) >>= tried s.settings range layer.digest (places_of layer.urls))
-      asks text m c request ranges whole = Shows-more (ByAnswer Any (Shown T s.settings layer.digest)) (λ start d o r. ByAnswer Any (Shown T s.settings layer.digest) m (c ++ d) o r) (Done (with_range text request) >>= tried s.settings range layer.digest (places_of layer.urls))
-          (Shows-step (ByAnswer Any (Shown T s.settings layer.digest)) (with_range text request) (tried s.settings range layer.digest (places_of layer.urls)) (λ ranged is. tried_causes T s.settings range layer.digest (places_of layer.urls) early others ranged (inl (request, whole, text, ranges, is))) (λ e is m. early_is T s.settings layer.digest m (with_range text request) e (ranged_early T text request) is)) (λ start o d r h. later T s.settings layer.digest m start o c d r h)
+      asks : (text : Option (List ℕ)) (m : ℕ) (c : List Exchange) (request : Request) → range_text range ≡ Ok text → AsksText s.settings (blob_text s.settings image layer.digest) request → EveryRun (λ start d o r. ByResult Any (Shown T s.settings layer.digest) m (c ++ d) o r) (Done (with_range text request) >>= tried s.settings range layer.digest (places_of layer.urls))
+      asks text m c request ranges whole = EveryRun-more (ByResult Any (Shown T s.settings layer.digest)) (λ start d o r. ByResult Any (Shown T s.settings layer.digest) m (c ++ d) o r) (Done (with_range text request) >>= tried s.settings range layer.digest (places_of layer.urls))
+          (EveryRun-step (ByResult Any (Shown T s.settings layer.digest)) (with_range text request) (tried s.settings range layer.digest (places_of layer.urls)) (λ ranged is. tried_causes T s.settings range layer.digest (places_of layer.urls) early others ranged (inl (request, whole, text, ranges, is))) (λ e is m. early_is T s.settings layer.digest m (with_range text request) e (ranged_early T text request) is)) (λ start o d r h. later T s.settings layer.digest m start o c d r h)
 
-      after : (text : Option (List ℕ)) → range_text range ≡ Ok text → Shows (ByAnswer Any (Shown T s.settings layer.digest)) (Done (url_read (blob_text s.settings image layer.digest)) >>= (λ url. prepared s image Pull Get url manifest_types >>= (λ request. Done (with_range text request) >>= tried s.settings range layer.digest (places_of layer.urls))))
-      after text ranges = Shows-step (ByAnswer Any (Shown T s.settings layer.digest)) (url_read (blob_text s.settings image layer.digest)) _
-          (λ url is. Shows-each (λ m c n request. Prepared s.settings image Pull Get url manifest_types c request) Any (Shown T s.settings layer.digest) (prepared s image Pull Get url manifest_types) (λ request. Done (with_range text request) >>= tried s.settings range layer.digest (places_of layer.urls))
+      after : (text : Option (List ℕ)) → range_text range ≡ Ok text → EveryRun (ByResult Any (Shown T s.settings layer.digest)) (Done (url_read (blob_text s.settings image layer.digest)) >>= (λ url. prepared s image Pull Get url manifest_types >>= (λ request. Done (with_range text request) >>= tried s.settings range layer.digest (places_of layer.urls))))
+      after text ranges = EveryRun-step (ByResult Any (Shown T s.settings layer.digest)) (url_read (blob_text s.settings image layer.digest)) _
+          (λ url is. EveryRun-each (λ m c n request. Prepared s.settings image Pull Get url manifest_types c request) Any (Shown T s.settings layer.digest) (prepared s image Pull Get url manifest_types) (λ request. Done (with_range text request) >>= tried s.settings range layer.digest (places_of layer.urls))
           (early_shown T (AnswerCause (AskedDigest layer.digest)) s.settings manifest_types (λ m c n request. Prepared s.settings image Pull Get url manifest_types c request) (prepared s image Pull Get url manifest_types) (prepared_causes T s image Pull Get url manifest_types (inl refl)))
           (λ m n c request p. asks text m c request ranges (url, url_is (blob_text s.settings image layer.digest) (request_url (blob_text s.settings image layer.digest)) url is, asks_at s.settings image Pull Get url manifest_types c request p)))
           (λ e is m. url_cause T (AnswerCause (AskedDigest layer.digest)) s.settings manifest_types (blob_text s.settings image layer.digest) m [] e (inr (inl refl)) is)
@@ -271,11 +271,11 @@ pub tight_stream : (range : Option ByteRange) (T : Act → Type 0) (x : Entry) (
 tight_stream range T x s digest now c (refusal.GenericError HeaderText) h bad = bad
 tight_stream range T x s digest now c _ h bad = h
 
-pub opened_reason : (s : Context) (image : Reference) (layer : Layer) (range : Option ByteRange) {old new : Link} {k l : Memory} {r : Result Opening OciDistributionError} → IsSmall range → Meets is_memory (opened s image layer range) old new k l r → IfErr r (λ e. Told (λ c. StreamCause range (StreamUrl range s.settings image layer) (BadHeader (pulling k s image None) s.settings manifest_types) s.settings layer.digest c new.faults e) old new)
+pub opened_reason : (s : Context) (image : Reference) (layer : Layer) (range : Option ByteRange) {old new : Link} {k l : AuthState} {r : Result Opening OciDistributionError} → IsSmall range → Meets is_memory (opened s image layer range) old new k l r → IfErr r (λ e. Told (λ c. StreamCause range (StreamUrl range s.settings image layer) (BadHeader (pulling k s image None) s.settings manifest_types) s.settings layer.digest c new.faults e) old new)
 opened_reason s image layer range {k = k} small met =
     let x = pulling k s image None in
     refusal_both (Carries x s.settings) Any (Streamed range (StreamUrl range s.settings image layer) s.settings layer.digest) (Keeps x) (Ended x s.settings manifest_types) (λ c n e. StreamCause range (StreamUrl range s.settings image layer) (BadHeader x s.settings manifest_types) s.settings layer.digest c n e) (opened s image layer range)
     (λ n c e is. stream_free range (StreamUrl range s.settings image layer) (BadHeader x s.settings manifest_types) s.settings layer.digest n c e is) (λ m n c e h bad. tight_stream range (StreamUrl range s.settings image layer) x s.settings layer.digest n c e h bad) (opened_causes s image layer range) (opened_sound s image layer range k None k [] small (keeps_first x)) met
 
-pub opened_fault : (s : Context) (image : Reference) (layer : Layer) (range : Option ByteRange) {old new : Link} {k l : Memory} → Meets is_memory (opened s image layer range) old new k l (Err refusal.TransportFault) → Rose old.faults new.faults
+pub opened_fault : (s : Context) (image : Reference) (layer : Layer) (range : Option ByteRange) {old new : Link} {k l : AuthState} → Meets is_memory (opened s image layer range) old new k l (Err refusal.TransportFault) → Increased old.faults new.faults
 opened_fault s image layer range met = fault_last Any (Streamed range (StreamUrl range s.settings image layer) s.settings layer.digest) (opened s image layer range) refusal.TransportFault refl (λ m n c h. failed_last h) (opened_causes s image layer range) met

@@ -6,7 +6,7 @@ use Rattle.oci_transport.specs.Link.{Link}
 use Rattle.oci_transport.specs.Urls.{request_url}
 use Rattle.oci_transport.specs.declared.message.Method.TheVariants.{Get}
 use Rattle.oci_names.specs.declared.reference.Reference.{Reference}
-use Rattle.oci_auth.specs.declared.memory.Memory.{Memory}
+use Rattle.oci_auth.specs.declared.auth_state.AuthState.{AuthState}
 use Rattle.oci_auth.specs.declared.token_type.RegistryOperation.TheVariants.{Pull}
 use Rattle.oci_protocol.specs.Proto.{Done, bind, unless_refused, ◌>>=◌}
 use Rattle.oci_protocol.specs.Runs.{Meets}
@@ -111,19 +111,19 @@ response_early : (r : Result BlobResponse OciDistributionError) → IsEarly (res
 response_early (Ok response) h = absurd h
 response_early (Err x) h = h
 
-pub stream_no_url : (s : Context) (image : Reference) (layer : Layer) {old new : Link} {k l : Memory} (r : Result SizedStream OciDistributionError) → request_url (blob_text s.settings image layer.digest) ≡ None → Meets is_memory (blob_stream s image layer) old new k l (opening_in r) → IsRefusedAs (refusal.UrlParseError (blob_text s.settings image layer.digest)) r
+pub stream_no_url : (s : Context) (image : Reference) (layer : Layer) {old new : Link} {k l : AuthState} (r : Result SizedStream OciDistributionError) → request_url (blob_text s.settings image layer.digest) ≡ None → Meets is_memory (blob_stream s image layer) old new k l (opening_in r) → IsRefusedAs (refusal.UrlParseError (blob_text s.settings image layer.digest)) r
 stream_no_url s image layer r none met = stream_only (refusal.UrlParseError (blob_text s.settings image layer.digest)) r (met_only (refusal.UrlParseError (blob_text s.settings image layer.digest)) (opened_no_url s image layer None tt none) met)
 
-pub stream_bad : (s : Context) (image : Reference) (layer : Layer) {old new : Link} {k l : Memory} (r : Result SizedStream OciDistributionError) → HasBadHeader s.settings manifest_types → Meets is_memory (blob_stream s image layer) old new k l (opening_in r) → IsEarly r
+pub stream_bad : (s : Context) (image : Reference) (layer : Layer) {old new : Link} {k l : AuthState} (r : Result SizedStream OciDistributionError) → HasBadHeader s.settings manifest_types → Meets is_memory (blob_stream s image layer) old new k l (opening_in r) → IsEarly r
 stream_bad s image layer r bad met = stream_early r (met_early (opened_bad s image layer None tt bad) met)
 
-pub partial_no_url : (s : Context) (image : Reference) (layer : Layer) (range : ByteRange) {old new : Link} {k l : Memory} (r : Result BlobResponse OciDistributionError) → Fits (Some range) → request_url (blob_text s.settings image layer.digest) ≡ None → Meets is_memory (blob_stream_partial s image layer range) old new k l (response_in r) → IsRefusedAs (refusal.UrlParseError (blob_text s.settings image layer.digest)) r
+pub partial_no_url : (s : Context) (image : Reference) (layer : Layer) (range : ByteRange) {old new : Link} {k l : AuthState} (r : Result BlobResponse OciDistributionError) → Fits (Some range) → request_url (blob_text s.settings image layer.digest) ≡ None → Meets is_memory (blob_stream_partial s image layer range) old new k l (response_in r) → IsRefusedAs (refusal.UrlParseError (blob_text s.settings image layer.digest)) r
 partial_no_url s image layer range r fits none met =
     let e = refusal.UrlParseError (blob_text s.settings image layer.digest) in
     response_only e r (met_only e (partial_only e s image layer range (opened_no_url s image layer (Some range) fits none)) met)
 
-pub partial_bad : (s : Context) (image : Reference) (layer : Layer) (range : ByteRange) {old new : Link} {k l : Memory} (r : Result BlobResponse OciDistributionError) → Fits (Some range) → HasBadHeader s.settings manifest_types → Meets is_memory (blob_stream_partial s image layer range) old new k l (response_in r) → IsEarly r
+pub partial_bad : (s : Context) (image : Reference) (layer : Layer) (range : ByteRange) {old new : Link} {k l : AuthState} (r : Result BlobResponse OciDistributionError) → Fits (Some range) → HasBadHeader s.settings manifest_types → Meets is_memory (blob_stream_partial s image layer range) old new k l (response_in r) → IsEarly r
 partial_bad s image layer range r fits bad met = response_early r (met_early (partial_early s image layer range (opened_bad s image layer (Some range) fits bad)) met)
 
-pub partial_past : (s : Context) (image : Reference) (layer : Layer) (range : ByteRange) {old new : Link} {k l : Memory} (r : Result BlobResponse OciDistributionError) → Overflows (Some range) → Meets is_memory (blob_stream_partial s image layer range) old new k l (response_in r) → IsRefusedAs (refusal.GenericError RangeOverflow) r
+pub partial_past : (s : Context) (image : Reference) (layer : Layer) (range : ByteRange) {old new : Link} {k l : AuthState} (r : Result BlobResponse OciDistributionError) → Overflows (Some range) → Meets is_memory (blob_stream_partial s image layer range) old new k l (response_in r) → IsRefusedAs (refusal.GenericError RangeOverflow) r
 partial_past s image layer range r past met = response_only (refusal.GenericError RangeOverflow) r (met_only (refusal.GenericError RangeOverflow) (partial_only (refusal.GenericError RangeOverflow) s image layer range (opened_past s image layer range past)) met)

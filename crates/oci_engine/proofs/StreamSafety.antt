@@ -10,7 +10,7 @@ use Rattle.oci_transport.specs.declared.message.Method.{Method}
 use Rattle.oci_transport.specs.declared.message.Method.TheVariants.{Get}
 use Rattle.oci_names.specs.declared.reference.Reference.{Reference}
 use Rattle.oci_auth.specs.declared.auth.RegistryAuth.{RegistryAuth}
-use Rattle.oci_auth.specs.declared.memory.Memory.{Memory}
+use Rattle.oci_auth.specs.declared.auth_state.AuthState.{AuthState}
 use Rattle.oci_auth.specs.declared.token_type.RegistryOperation.{RegistryOperation}
 use Rattle.oci_auth.specs.declared.token_type.RegistryOperation.TheVariants.{Pull}
 use Rattle.oci_auth.specs.declared.token_type.RegistryTokenType.{RegistryTokenType}
@@ -50,7 +50,7 @@ use Rattle.oci_engine.proofs.StreamRanges.{Stands, IsSmall, onward_is, range_is,
 
 -- ---- one request
 
-judged_sound : {A : Type 0} (x : Entry) (s : Settings) (types : List ℕ) (limit : ℕ) (takes : AnswerHead → Bool) (made : AnswerHead → Result A OciDistributionError) (request : Request) (l : Memory) (c : List Exchange) → ((head : AnswerHead) → Plain (made head)) → Sent x s c request → Keeps x l c → Sound x s types l c (judged limit takes made request)
+judged_sound : {A : Type 0} (x : Entry) (s : Settings) (types : List ℕ) (limit : ℕ) (takes : AnswerHead → Bool) (made : AnswerHead → Result A OciDistributionError) (request : Request) (l : AuthState) (c : List Exchange) → ((head : AnswerHead) → Plain (made head)) → Sent x s c request → Keeps x l c → Sound x s types l c (judged limit takes made request)
 unfolding judged
 judged_sound x s types limit takes made request l c plain sent keeps = safe_follow x s (Ended x s types) 10 request (judged_reading limit takes) (judged_reply made) l c sent keeps (λ last d e before after other reply h replies. by_reply last reply (d ++ e ∷ []) h) where
   by_reply : (last : Request) (reply : Reply) (d : List Exchange) → Keeps x l d → Sound x s types l d (judged_reply made last reply)
@@ -92,7 +92,7 @@ ranged_sent x s c request headers value is sent = subst (Each (SentValue x s c a
   moved : Each (SentValue x s c after) (values_of (codes "authorization") request.headers)
   moved = each_more (SentValue x s c request) (SentValue x s c after) (values_of (codes "authorization") request.headers) (λ value at. (to at.0, at.1, at.2, at.3)) sent
 
-ranged_ready : (x : Entry) (s : Settings) (types : List ℕ) (l : Memory) (c : List Exchange) (text : Option (List ℕ)) (request : Request) → Stands text → HasRoom request → Keeps x l c → Sent x s c request → Ready x s types l c (with_range text request)
+ranged_ready : (x : Entry) (s : Settings) (types : List ℕ) (l : AuthState) (c : List Exchange) (text : Option (List ℕ)) (request : Request) → Stands text → HasRoom request → Keeps x l c → Sent x s c request → Ready x s types l c (with_range text request)
 ranged_ready x s types l c None request stands room keeps sent = (keeps, sent)
 ranged_ready x s types l c (Some text) request stands room keeps sent = by_header (with_header request.headers (codes "range") text) refl where
   by_header : (r : Result Fields OciDistributionError) → with_header request.headers (codes "range") text ≡ r → Ready x s types l c (r into (λ headers. Ok (record request { headers = headers })))
@@ -100,7 +100,7 @@ ranged_ready x s types l c (Some text) request stands room keeps sent = by_heade
   by_header (Err e) is = absurd (range_stays request text e room stands is)
 
 -- at a listed URL
-place_ranged : (x : Entry) (s : Settings) (range : Option ByteRange) (p : Place) (l : Memory) (c : List Exchange) → IsSmall range → Keeps x l c → Ready x s manifest_types l c (ranged_at s range p)
+place_ranged : (x : Entry) (s : Settings) (range : Option ByteRange) (p : Place) (l : AuthState) (c : List Exchange) → IsSmall range → Keeps x l c → Ready x s manifest_types l c (ranged_at s range p)
 unfolding asked_at
 place_ranged x s range (Web url) l c small keeps = by_request (request_of s Get url (Some manifest_types) None) refl (place_ready x s (Web url) l c keeps) where
   by_request : (r : Result Request OciDistributionError) → request_of s Get url (Some manifest_types) None ≡ r → Ready x s manifest_types l c r → Ready x s manifest_types l c (r into with_range (onward range))
@@ -111,11 +111,11 @@ place_ranged x s range (Unfit text) l c small keeps = tt
 -- ---- the rows
 
 -- a response that was found, or what comes next
-found_sound : (x : Entry) (s : Settings) (next : Row Opening) (l : Memory) (c : List Exchange) (found : Option Opening) → Keeps x l c → Sound x s manifest_types l c next → Sound x s manifest_types l c (or_next next found)
+found_sound : (x : Entry) (s : Settings) (next : Row Opening) (l : AuthState) (c : List Exchange) (found : Option Opening) → Keeps x l c → Sound x s manifest_types l c next → Sound x s manifest_types l c (or_next next found)
 found_sound x s next l c (Some o) keeps rest = safe_done x s (Ended x s manifest_types) l c (Ok o) keeps
 found_sound x s next l c None keeps rest = rest
 
-tried_sound : (x : Entry) (s : Settings) (range : Option ByteRange) (digest : List ℕ) (places : List Place) (request : Request) (l : Memory) (c : List Exchange) → IsSmall range → Sent x s c request → Keeps x l c → Sound x s manifest_types l c (tried s range digest places request)
+tried_sound : (x : Entry) (s : Settings) (range : Option ByteRange) (digest : List ℕ) (places : List Place) (request : Request) (l : AuthState) (c : List Exchange) → IsSmall range → Sent x s c request → Keeps x l c → Sound x s manifest_types l c (tried s range digest places request)
 unfolding tried
 tried_sound x s range digest [] request l c small sent keeps = judged_sound x s manifest_types s.max_body_bytes (streams range) (opening range digest) request l c (opening_plain range digest) sent keeps
 tried_sound x s range digest (p ∷ ps) request l c small sent keeps = safe_next x s manifest_types (offered s.max_body_bytes range digest request) _ l c (judged_sound x s manifest_types s.max_body_bytes (streams_or_passes range) (opening_unless_error range digest) request l c (unless_plain range digest) sent keeps)
@@ -139,7 +139,7 @@ made_room : (s : Settings) (method : Method) (url : Parts) (types : List ℕ) (t
 made_room s method url types token (Ok request) is = has_room s method url types token request is
 made_room s method url types token (Err e) is = tt
 
-room_unless : (s : Settings) (method : Method) (url : Parts) (types : List ℕ) (r : Result (Option RegistryTokenType) OciDistributionError) → Ends {K = Memory} IfRoom (unless_refused (λ token. Done (request_of s method url (Some types) token)) r)
+room_unless : (s : Settings) (method : Method) (url : Parts) (types : List ℕ) (r : Result (Option RegistryTokenType) OciDistributionError) → Ends {K = AuthState} IfRoom (unless_refused (λ token. Done (request_of s method url (Some types) token)) r)
 unfolding Ends
 room_unless s method url types (Ok token) = made_room s method url types token (request_of s method url (Some types) token) refl
 room_unless s method url types (Err e) = tt
@@ -162,7 +162,7 @@ range_plain : (range : Option ByteRange) → Plain (range_text range)
 range_plain None = tt
 range_plain (Some range) = into_plain (text_by range.offset range.length) _ (by_plain range.offset range.length) (λ text. tt)
 
-pub opened_sound : (s : Context) (image : Reference) (layer : Layer) (range : Option ByteRange) (k : Memory) (handed : Option RegistryAuth) (l : Memory) (c : List Exchange) → IsSmall range → Keeps (pulling k s image handed) l c → Sound (pulling k s image handed) s.settings manifest_types l c (opened s image layer range)
+pub opened_sound : (s : Context) (image : Reference) (layer : Layer) (range : Option ByteRange) (k : AuthState) (handed : Option RegistryAuth) (l : AuthState) (c : List Exchange) → IsSmall range → Keeps (pulling k s image handed) l c → Sound (pulling k s image handed) s.settings manifest_types l c (opened s image layer range)
 unfolding opened
 opened_sound s image layer range k handed l c small keeps =
     let x = pulling k s image handed in
@@ -171,7 +171,7 @@ opened_sound s image layer range k handed l c small keeps =
     Safe-bind (Carries x s.settings) (Keeps x) (λ l c r. Ready x s.settings manifest_types l c r × IfRoom r) (Ended x s.settings manifest_types) (prepared s image Pull Get url manifest_types) (unless_refused (λ request. Done (with_range text request) >>= tried s.settings range layer.digest (places_of layer.urls))) l c
     (Safe-both (Carries x s.settings) (Keeps x) (Ready x s.settings manifest_types) IfRoom (prepared s image Pull Get url manifest_types) l c (prepared_safe x s.settings Get url manifest_types l c keeps) (prepared_room s image Pull Get url manifest_types))
     (by_request text (range_is range text small text_is)))) where
-      by_request : (text : Option (List ℕ)) → Stands text → (l : Memory) (c : List Exchange) (r : Result Request OciDistributionError) → Ready (pulling k s image handed) s.settings manifest_types l c r × IfRoom r → Sound (pulling k s image handed) s.settings manifest_types l c (unless_refused (λ request. Done (with_range text request) >>= tried s.settings range layer.digest (places_of layer.urls)) r)
+      by_request : (text : Option (List ℕ)) → Stands text → (l : AuthState) (c : List Exchange) (r : Result Request OciDistributionError) → Ready (pulling k s image handed) s.settings manifest_types l c r × IfRoom r → Sound (pulling k s image handed) s.settings manifest_types l c (unless_refused (λ request. Done (with_range text request) >>= tried s.settings range layer.digest (places_of layer.urls)) r)
       by_request text stands l c (Ok request) h =
           let x = pulling k s image handed in
           safe_ready x s.settings manifest_types (Done (with_range text request)) (tried s.settings range layer.digest (places_of layer.urls)) l c (safe_done x s.settings (Ready x s.settings manifest_types) l c (with_range text request) (ranged_ready x s.settings manifest_types l c text request stands h.1 h.0.0 h.0.1)) (λ l c ranged keeps sent. tried_sound x s.settings range layer.digest (places_of layer.urls) ranged l c small sent keeps)

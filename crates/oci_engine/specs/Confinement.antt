@@ -10,7 +10,7 @@ use Rattle.engine_laws.specs.Confined.{Within}
 use Rattle.engine_laws.specs.Held.{asking, pulling}
 use Rattle.engine_laws.specs.Referrers.{WithinReferrers}
 use Rattle.oci_engine.specs.declared.client.Client.{Client}
-use Rattle.oci_engine.specs.Kept.{memory_of}
+use Rattle.oci_engine.specs.Kept.{auth_state_of}
 use Rattle.oci_engine.specs.Refusals.{at_moment}
 
 -- Each exposed request sends credentials and tokens only to the image's registry and to the realm that it names. They
@@ -21,12 +21,13 @@ abbrev pub StaysFor : RegistryOperation → Client → Client → ℕ → Refere
     → Type 0
 StaysFor op before after moment image handed old new =
     Told
-    (Within (asking (memory_of before) (at_moment before moment) image op handed) before.settings (memory_of after))
+    (Within (asking (auth_state_of before) (at_moment before moment) image op handed) before.settings
+    (auth_state_of after))
     old new
 
 -- of a call that pulls
-abbrev pub Stays : Client → Client → ℕ → Reference → Option RegistryAuth → Link → Link → Type 0
-Stays before after moment image handed old new = StaysFor Pull before after moment image handed old new
+abbrev pub StaysConfined : Client → Client → ℕ → Reference → Option RegistryAuth → Link → Link → Type 0
+StaysConfined before after moment image handed old new = StaysFor Pull before after moment image handed old new
 
 -- of a call for referrers, to which no credentials are passed: to the image's registry and, after the list was missing,
 -- to the tag's
@@ -34,5 +35,5 @@ abbrev pub StaysWithTag : Client → Client → ℕ → Reference → Link → L
 StaysWithTag before after moment image old new =
     Told
     (WithinReferrers
-    (pulling (memory_of before) (at_moment before moment) image None) before.settings (memory_of after))
+    (pulling (auth_state_of before) (at_moment before moment) image None) before.settings (auth_state_of after))
     old new

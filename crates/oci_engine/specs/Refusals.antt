@@ -1,6 +1,6 @@
 -- Why each call of a client was refused.
 use Rattle.std.specs.Prelude.{◌≡◌, ℕ, List, Option, Some, None, Result, Err, IfErr}
-use Rattle.json_values.specs.Counts.{Rose}
+use Rattle.json_values.specs.Counts.{Increased}
 use Rattle.oci_transport.specs.Link.{Link}
 use Rattle.oci_transport.specs.Urls.{request_url}
 use Rattle.oci_transport.specs.declared.message.Exchange.{Exchange}
@@ -16,7 +16,7 @@ use Rattle.engine_terms.specs.declared.error.OciDistributionError.{OciDistributi
 use Rattle.engine_terms.specs.declared.error.OciDistributionError.TheVariants as refusal
 use Rattle.engine_rows.specs.Blobs.{Destination}
 use Rattle.oci_engine.specs.declared.client.Client.{Client}
-use Rattle.oci_engine.specs.Kept.{memory_of}
+use Rattle.oci_engine.specs.Kept.{auth_state_of}
 use Rattle.engine_laws.specs.Held.{pulling}
 use Rattle.engine_laws.specs.Referrers.{ReferrersCause}
 use Rattle.engine_laws.specs.Causes.{Cause, AnswerCause, DocumentCause, BadHeader, OwnDigest, ManifestUrl}
@@ -29,7 +29,7 @@ RefusedFor Why old new r = IfErr r (λ e. Told (λ c. Why c new.faults e) old ne
 
 -- a fault of the transport is returned only if its fault count increased
 abbrev pub FaultCounted : {A : Type 0} → Link → Link → Result A OciDistributionError → Type 0
-FaultCounted old new r = r ≡ Err refusal.TransportFault → Rose old.faults new.faults
+FaultCounted old new r = r ≡ Err refusal.TransportFault → Increased old.faults new.faults
 
 -- a string that is not a URL is refused as such, unless memory ran out
 abbrev pub UrlRefused : {A : Type 0} → List ℕ → Result A OciDistributionError → Type 0
@@ -42,7 +42,7 @@ at_moment client moment = within client.settings moment
 -- a value that the call would send is not a valid header value; credentials may be passed in
 abbrev pub BadHeaderOf : Client → ℕ → Reference → Option RegistryAuth → List ℕ → List Exchange → Type 0
 BadHeaderOf client moment image a types =
-    BadHeader (pulling (memory_of client) (at_moment client moment) image a) client.settings types
+    BadHeader (pulling (auth_state_of client) (at_moment client moment) image a) client.settings types
 
 -- of the image's digest
 abbrev pub DigestRefused : Client → ℕ → Reference → RegistryAuth → List Exchange → ℕ
@@ -94,7 +94,7 @@ BlobRefused to client moment image layer c now e =
 -- of a list of referrers
 abbrev pub ReferrersRefused : Client → ℕ → Reference → List Exchange → ℕ → OciDistributionError → Type 0
 ReferrersRefused client moment image c now e =
-    ReferrersCause (pulling (memory_of client) (at_moment client moment) image None) client.settings c now e
+    ReferrersCause (pulling (auth_state_of client) (at_moment client moment) image None) client.settings c now e
 
 -- a reference without a digest is refused as such, unless memory ran out
 abbrev pub DigestWanted : {A : Type 0} → Reference → Result A OciDistributionError → Type 0

@@ -1,24 +1,24 @@
 // The calls that users make.
 ghost use Rattle.std.specs.Prelude.{◌≡◌, ℕ, List, Some, None, OnOk, OnErr, Err, IfOk, option_copied};
-ghost use Rattle.json_values.specs.Counts.{Rose};
+ghost use Rattle.json_values.specs.Counts.{Increased};
 ghost use Rattle.oci_digests.specs.Names.{Names};
 ghost use Rattle.oci_names.specs.Reference.{digest_of};
 ghost use Rattle.oci_protocol.specs.Runs.{Meets, Told};
 ghost use Rattle.engine_requests.specs.Addresses.{manifest_text, blob_text};
 ghost use Rattle.engine_terms.specs.Error.{is_memory};
 ghost use Rattle.engine_requests.specs.Requests.{listed, manifest_types};
-ghost use Rattle.engine_rows.specs.Blobs.{IntoSink, IntoMemory, Spills};
+ghost use Rattle.engine_rows.specs.Blobs.{IntoSink, IntoMemory, MeetsIntoSink};
 ghost use Rattle.engine_rows.specs.Rows.{token_given};
-ghost use Rattle.engine_steps.specs.Untaken.{LastUntaken};
-ghost use Rattle.oci_auth.specs.Memory.{fresh, stored};
+ghost use Rattle.engine_steps.specs.BodyUnread.{LastBodyUnread};
+ghost use Rattle.oci_auth.specs.AuthState.{fresh, stored};
 ghost use Rattle.engine_rows.specs.Pulls.{fetch_manifest_digest, pull_manifest, pull_manifest_raw};
 ghost use Rattle.engine_rows.specs.Pulls.{pull_blob, held_blob};
 ghost use Rattle.engine_rows.specs.Image.{pull};
 ghost use Rattle.engine_laws.specs.Answered.{DigestAnswered, Body, LastBody, TookBlob};
 ghost use Rattle.engine_laws.specs.Causes.{HasBadHeader, IsEarly};
 ghost use Rattle.oci_engine.specs.Clients.{settings_of, default_config};
-ghost use Rattle.oci_engine.specs.Kept.{memory_of};
-ghost use Rattle.oci_engine.specs.Confinement.{Stays, StaysFor};
+ghost use Rattle.oci_engine.specs.Kept.{auth_state_of};
+ghost use Rattle.oci_engine.specs.Confinement.{StaysConfined, StaysFor};
 ghost use Rattle.oci_engine.specs.Refusals.{RefusedFor, FaultCounted, UrlRefused, at_moment};
 ghost use Rattle.oci_engine.specs.Refusals.{DigestRefused, DocumentRefused, ManifestRefused};
 ghost use Rattle.oci_engine.specs.Refusals.{PullRefused, BlobRefused};
@@ -30,7 +30,7 @@ use engine_requests::AsLayerDescriptor;
 use engine_rows::ImageData;
 use engine_terms::{Call, OciDistributionError, Settings};
 use json_values::{Blob, Sink, Text, TextMap};
-use oci_auth::{Memory, RegistryAuth, RegistryOperation, TokenCache};
+use oci_auth::{AuthState, RegistryAuth, RegistryOperation, TokenCache};
 use oci_manifests::OciManifest;
 use oci_names::Reference;
 use oci_platforms::PlatformResolver;
@@ -49,11 +49,11 @@ pub struct Client {
 }
 
 // The client state, moved out for a call: the crates below borrow it as one value.
-pub(crate) fn lend(credentials: &mut TextMap<RegistryAuth>, tokens: &mut TokenCache) -> Memory
+pub(crate) fn lend(credentials: &mut TextMap<RegistryAuth>, tokens: &mut TokenCache) -> AuthState
     ensures { result ≡ record { credentials = credentials.old; tokens = tokens.old } }
 {
     let alloc = tokens.alloc();
-    Memory {
+    AuthState {
         credentials: mem::replace(credentials, TextMap::new(alloc)),
         tokens: mem::replace(tokens, TokenCache::new(alloc, 0)),
     }
@@ -75,7 +75,7 @@ pub(crate) use lent;
 impl Client {
     pub fn new(alloc: Global, config: ClientConfig) -> Client
         ensures settings { result.settings ≡ settings_of config }
-        ensures fresh { memory_of result ≡ fresh config.default_token_expiration_secs }
+        ensures fresh { auth_state_of result ≡ fresh config.default_token_expiration_secs }
     {
         let ClientConfig {
             protocol,
@@ -86,10 +86,10 @@ impl Client {
             max_body_bytes,
             ..
         } = config;
-        let Memory {
+        let AuthState {
             credentials,
             tokens,
-        } = Memory::new(alloc, default_token_expiration_secs);
+        } = AuthState::new(alloc, default_token_expiration_secs);
         Client {
             settings: Settings {
                 protocol,
@@ -110,7 +110,7 @@ impl Client {
     ) -> Result<Client, AllocError>
         ensures settings { IfOk result (λ client. client.settings ≡ settings_of (S.configured source.now)) }
         ensures fresh { IfOk result
-            (λ client. memory_of client ≡ fresh (S.configured source.now).default_token_expiration_secs) }
+            (λ client. auth_state_of client ≡ fresh (S.configured source.now).default_token_expiration_secs) }
     {
         let config = source.client_config(alloc)?;
         Ok(Client::new(alloc, config))
@@ -119,7 +119,7 @@ impl Client {
     /// Returns the client of the default configuration.
     pub fn default(alloc: Global) -> Result<Client, AllocError>
         ensures settings { IfOk result (λ client. client.settings ≡ settings_of default_config) }
-        ensures fresh { IfOk result (λ client. memory_of client ≡ fresh 60) }
+        ensures fresh { IfOk result (λ client. auth_state_of client ≡ fresh 60) }
     {
         let config = ClientConfig::default(alloc)?;
         Ok(Client::new(alloc, config))
@@ -139,7 +139,7 @@ impl Client {
         auth: &RegistryAuth,
     ) -> Result<(), AllocError>
         ensures ok { OnOk result
-            (memory_of self.new ≡ stored (memory_of self.old) registry.now auth.now) }
+            (auth_state_of self.new ≡ stored (auth_state_of self.old) registry.now auth.now) }
         ensures settings { self.new.settings ≡ self.old.settings }
         ensures err { OnErr result (self.new ≡ self.old) }
     {
@@ -163,15 +163,15 @@ impl Client {
         operation: RegistryOperation,
     ) -> Result<Option<Text>, OciDistributionError>
         ensures run { Meets is_memory (token_given (at_moment self.old moment) image.now authentication.now operation)
-            (T.state transport.old) (T.state transport.new) (memory_of self.old) (memory_of self.new) result }
+            (T.state transport.old) (T.state transport.new) (auth_state_of self.old) (auth_state_of self.new) result }
         ensures settings { self.new.settings ≡ self.old.settings }
         ensures confined { StaysFor operation self.old self.new moment image.now (Some authentication.now)
             (T.state transport.old) (T.state transport.new) }
         ensures causes { RefusedFor (TokenCause self.old.settings image.now authentication.now)
             (T.state transport.old) (T.state transport.new) result }
         ensures fault { FaultCounted (T.state transport.old) (T.state transport.new) result }
-        ensures untaken { IfOk result
-            (λ text. text ≡ None → LastUntaken (T.state transport.old) (T.state transport.new)) }
+        ensures body_unread { IfOk result
+            (λ text. text ≡ None → LastBodyUnread (T.state transport.old) (T.state transport.new)) }
     {
         let call = Call {
             settings: &self.settings,
@@ -203,16 +203,16 @@ impl Client {
         auth: &RegistryAuth,
     ) -> Result<Text, OciDistributionError>
         ensures run { Meets is_memory (fetch_manifest_digest (at_moment self.old moment) image.now auth.now)
-            (T.state transport.old) (T.state transport.new) (memory_of self.old) (memory_of self.new) result }
+            (T.state transport.old) (T.state transport.new) (auth_state_of self.old) (auth_state_of self.new) result }
         ensures settings { self.new.settings ≡ self.old.settings }
-        ensures confined { Stays self.old self.new moment image.now (Some auth.now)
+        ensures confined { StaysConfined self.old self.new moment image.now (Some auth.now)
             (T.state transport.old) (T.state transport.new) }
         ensures answered { IfOk result (λ d. Told (λ c. DigestAnswered self.old.settings image.now c d)
             (T.state transport.old) (T.state transport.new)) }
         ensures causes { RefusedFor (DigestRefused self.old moment image.now auth.now)
             (T.state transport.old) (T.state transport.new) result }
         ensures fault { FaultCounted (T.state transport.old) (T.state transport.new) result }
-        ensures no_url { UrlRefused (manifest_text self.old.settings image.now) result }
+        ensures invalid_url { UrlRefused (manifest_text self.old.settings image.now) result }
         ensures bad_header { HasBadHeader self.old.settings manifest_types → IsEarly result }
     {
         let call = Call {
@@ -239,9 +239,9 @@ impl Client {
     ) -> Result<(Blob, Text), OciDistributionError>
         ensures run { Meets is_memory
             (pull_manifest_raw (at_moment self.old moment) image.now auth.now (listed accepted_media_types.now))
-            (T.state transport.old) (T.state transport.new) (memory_of self.old) (memory_of self.new) result }
+            (T.state transport.old) (T.state transport.new) (auth_state_of self.old) (auth_state_of self.new) result }
         ensures settings { self.new.settings ≡ self.old.settings }
-        ensures confined { Stays self.old self.new moment image.now (Some auth.now)
+        ensures confined { StaysConfined self.old self.new moment image.now (Some auth.now)
             (T.state transport.old) (T.state transport.new) }
         ensures body { IfOk result (λ found. Told (λ c. Body c found.0)
             (T.state transport.old) (T.state transport.new)) }
@@ -251,7 +251,7 @@ impl Client {
             (DocumentRefused self.old moment image.now auth.now (listed accepted_media_types.now))
             (T.state transport.old) (T.state transport.new) result }
         ensures fault { FaultCounted (T.state transport.old) (T.state transport.new) result }
-        ensures no_url { UrlRefused (manifest_text self.old.settings image.now) result }
+        ensures invalid_url { UrlRefused (manifest_text self.old.settings image.now) result }
         ensures bad_header { HasBadHeader self.old.settings (listed accepted_media_types.now) → IsEarly result }
     {
         let types = engine_requests::listed(alloc, accepted_media_types)?;
@@ -285,14 +285,14 @@ impl Client {
         auth: &RegistryAuth,
     ) -> Result<(OciManifest, Text), OciDistributionError>
         ensures run { Meets is_memory (pull_manifest (at_moment self.old moment) image.now auth.now)
-            (T.state transport.old) (T.state transport.new) (memory_of self.old) (memory_of self.new) result }
+            (T.state transport.old) (T.state transport.new) (auth_state_of self.old) (auth_state_of self.new) result }
         ensures settings { self.new.settings ≡ self.old.settings }
-        ensures confined { Stays self.old self.new moment image.now (Some auth.now)
+        ensures confined { StaysConfined self.old self.new moment image.now (Some auth.now)
             (T.state transport.old) (T.state transport.new) }
         ensures causes { RefusedFor (ManifestRefused self.old moment image.now auth.now)
             (T.state transport.old) (T.state transport.new) result }
         ensures fault { FaultCounted (T.state transport.old) (T.state transport.new) result }
-        ensures no_url { UrlRefused (manifest_text self.old.settings image.now) result }
+        ensures invalid_url { UrlRefused (manifest_text self.old.settings image.now) result }
         ensures bad_header { HasBadHeader self.old.settings manifest_types → IsEarly result }
     {
         let call = Call {
@@ -318,15 +318,15 @@ impl Client {
         accepted_media_types: &[Text],
     ) -> Result<ImageData, OciDistributionError>
         ensures run { Meets is_memory (pull (at_moment self.old moment) image.now auth.now accepted_media_types.now)
-            (T.state transport.old) (T.state transport.new) (memory_of self.old) (memory_of self.new) result }
+            (T.state transport.old) (T.state transport.new) (auth_state_of self.old) (auth_state_of self.new) result }
         ensures settings { self.new.settings ≡ self.old.settings }
-        ensures confined { Stays self.old self.new moment image.now (Some auth.now)
+        ensures confined { StaysConfined self.old self.new moment image.now (Some auth.now)
             (T.state transport.old) (T.state transport.new) }
         ensures causes { RefusedFor
             (PullRefused self.old moment image.now auth.now accepted_media_types.now)
             (T.state transport.old) (T.state transport.new) result }
         ensures fault { FaultCounted (T.state transport.old) (T.state transport.new) result }
-        ensures no_url { UrlRefused (manifest_text self.old.settings image.now) result }
+        ensures invalid_url { UrlRefused (manifest_text self.old.settings image.now) result }
         ensures bad_header { HasBadHeader self.old.settings manifest_types → IsEarly result }
     {
         let call = Call {
@@ -360,11 +360,11 @@ impl Client {
         layer: &L,
         out: &mut K,
     ) -> Result<(), OciDistributionError>
-        ensures spills { Spills (pull_blob (at_moment self.old moment) image.now (L.layer layer.now))
-            (T.state transport.old) (T.state transport.new) (memory_of self.old) (memory_of self.new)
+        ensures run { MeetsIntoSink (pull_blob (at_moment self.old moment) image.now (L.layer layer.now))
+            (T.state transport.old) (T.state transport.new) (auth_state_of self.old) (auth_state_of self.new)
             (K.state out.old) (K.state out.new) result }
         ensures settings { self.new.settings ≡ self.old.settings }
-        ensures confined { Stays self.old self.new moment image.now None
+        ensures confined { StaysConfined self.old self.new moment image.now None
             (T.state transport.old) (T.state transport.new) }
         ensures took { IfOk result (λ u. TookBlob (L.layer layer.now).digest
             (T.state transport.old) (T.state transport.new) (K.state out.old) (K.state out.new)) }
@@ -372,8 +372,8 @@ impl Client {
             (T.state transport.old) (T.state transport.new) result }
         ensures fault { FaultCounted (T.state transport.old) (T.state transport.new) result }
         ensures sink { result ≡ Err OciDistributionError.SinkFault
-            → Rose (K.state out.old).faults (K.state out.new).faults }
-        ensures no_url { UrlRefused (blob_text self.old.settings image.now (L.layer layer.now).digest) result }
+            → Increased (K.state out.old).faults (K.state out.new).faults }
+        ensures invalid_url { UrlRefused (blob_text self.old.settings image.now (L.layer layer.now).digest) result }
         ensures bad_header { HasBadHeader self.old.settings manifest_types → IsEarly result }
     {
         let call = Call {
@@ -399,9 +399,9 @@ impl Client {
         layer: &L,
     ) -> Result<Blob, OciDistributionError>
         ensures run { Meets is_memory (held_blob (at_moment self.old moment) image.now (L.layer layer.now))
-            (T.state transport.old) (T.state transport.new) (memory_of self.old) (memory_of self.new) result }
+            (T.state transport.old) (T.state transport.new) (auth_state_of self.old) (auth_state_of self.new) result }
         ensures settings { self.new.settings ≡ self.old.settings }
-        ensures confined { Stays self.old self.new moment image.now None
+        ensures confined { StaysConfined self.old self.new moment image.now None
             (T.state transport.old) (T.state transport.new) }
         ensures body { IfOk result (λ bytes. Told (λ c. Body c bytes)
             (T.state transport.old) (T.state transport.new)) }
@@ -411,7 +411,7 @@ impl Client {
         ensures causes { RefusedFor (BlobRefused IntoMemory self.old moment image.now (L.layer layer.now))
             (T.state transport.old) (T.state transport.new) result }
         ensures fault { FaultCounted (T.state transport.old) (T.state transport.new) result }
-        ensures no_url { UrlRefused (blob_text self.old.settings image.now (L.layer layer.now).digest) result }
+        ensures invalid_url { UrlRefused (blob_text self.old.settings image.now (L.layer layer.now).digest) result }
         ensures bad_header { HasBadHeader self.old.settings manifest_types → IsEarly result }
     {
         let call = Call {

@@ -1,5 +1,5 @@
 // Configurations as configuration files.
-ghost use Rattle.engine_terms.specs.Error.{Says};
+ghost use Rattle.engine_terms.specs.Error.{Matches};
 ghost use Rattle.oci_engine.specs.ConfigFiles.{config_file};
 
 use engine_terms::OciDistributionError;
@@ -10,7 +10,7 @@ use std::alloc::Global;
 
 /// Parses the configuration as a configuration file. If it is malformed, `ConfigConversionError` contains it.
 pub fn config_file(alloc: Global, config: &Config) -> Result<ConfigFile, OciDistributionError>
-    ensures { Says result (config_file config.now.content) }
+    ensures { Matches result (config_file config.now.content) }
 {
     match ConfigFile::from_config(alloc, config) {
         Ok(file) => Ok(file),

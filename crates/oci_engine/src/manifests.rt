@@ -7,8 +7,8 @@ ghost use Rattle.engine_requests.specs.Requests.{manifest_types};
 ghost use Rattle.engine_rows.specs.Manifests.{pull_image_manifest, pull_image_manifest_and_list_digest};
 ghost use Rattle.engine_rows.specs.Manifests.{pull_manifest_and_config, pull_manifest_and_config_and_list_digest};
 ghost use Rattle.engine_laws.specs.Causes.{HasBadHeader, IsEarly};
-ghost use Rattle.oci_engine.specs.Confinement.{Stays};
-ghost use Rattle.oci_engine.specs.Kept.{memory_of};
+ghost use Rattle.oci_engine.specs.Confinement.{StaysConfined};
+ghost use Rattle.oci_engine.specs.Kept.{auth_state_of};
 ghost use Rattle.oci_engine.specs.Refusals.{RefusedFor, FaultCounted, UrlRefused, at_moment};
 ghost use Rattle.oci_engine.specs.Refusals.{FoundRefused, ConfigRefused};
 
@@ -34,14 +34,14 @@ impl Client {
     ) -> Result<(OciImageManifest, Text, Option<Text>), OciDistributionError>
         ensures run { Meets is_memory
             (pull_image_manifest_and_list_digest (at_moment self.old moment) image.now auth.now)
-            (T.state transport.old) (T.state transport.new) (memory_of self.old) (memory_of self.new) result }
+            (T.state transport.old) (T.state transport.new) (auth_state_of self.old) (auth_state_of self.new) result }
         ensures settings { self.new.settings ≡ self.old.settings }
-        ensures confined { Stays self.old self.new moment image.now (Some auth.now)
+        ensures confined { StaysConfined self.old self.new moment image.now (Some auth.now)
             (T.state transport.old) (T.state transport.new) }
         ensures causes { RefusedFor (FoundRefused self.old moment image.now auth.now)
             (T.state transport.old) (T.state transport.new) result }
         ensures fault { FaultCounted (T.state transport.old) (T.state transport.new) result }
-        ensures no_url { UrlRefused (manifest_text self.old.settings image.now) result }
+        ensures invalid_url { UrlRefused (manifest_text self.old.settings image.now) result }
         ensures bad_header { HasBadHeader self.old.settings manifest_types → IsEarly result }
     {
         let call = Call {
@@ -72,14 +72,14 @@ impl Client {
         auth: &RegistryAuth,
     ) -> Result<(OciImageManifest, Text), OciDistributionError>
         ensures run { Meets is_memory (pull_image_manifest (at_moment self.old moment) image.now auth.now)
-            (T.state transport.old) (T.state transport.new) (memory_of self.old) (memory_of self.new) result }
+            (T.state transport.old) (T.state transport.new) (auth_state_of self.old) (auth_state_of self.new) result }
         ensures settings { self.new.settings ≡ self.old.settings }
-        ensures confined { Stays self.old self.new moment image.now (Some auth.now)
+        ensures confined { StaysConfined self.old self.new moment image.now (Some auth.now)
             (T.state transport.old) (T.state transport.new) }
         ensures causes { RefusedFor (FoundRefused self.old moment image.now auth.now)
             (T.state transport.old) (T.state transport.new) result }
         ensures fault { FaultCounted (T.state transport.old) (T.state transport.new) result }
-        ensures no_url { UrlRefused (manifest_text self.old.settings image.now) result }
+        ensures invalid_url { UrlRefused (manifest_text self.old.settings image.now) result }
         ensures bad_header { HasBadHeader self.old.settings manifest_types → IsEarly result }
     {
         let call = Call {
@@ -106,14 +106,14 @@ impl Client {
     ) -> Result<(OciImageManifest, Text, Text, Option<Text>), OciDistributionError>
         ensures run { Meets is_memory
             (pull_manifest_and_config_and_list_digest (at_moment self.old moment) image.now auth.now)
-            (T.state transport.old) (T.state transport.new) (memory_of self.old) (memory_of self.new) result }
+            (T.state transport.old) (T.state transport.new) (auth_state_of self.old) (auth_state_of self.new) result }
         ensures settings { self.new.settings ≡ self.old.settings }
-        ensures confined { Stays self.old self.new moment image.now (Some auth.now)
+        ensures confined { StaysConfined self.old self.new moment image.now (Some auth.now)
             (T.state transport.old) (T.state transport.new) }
         ensures causes { RefusedFor (ConfigRefused self.old moment image.now auth.now)
             (T.state transport.old) (T.state transport.new) result }
         ensures fault { FaultCounted (T.state transport.old) (T.state transport.new) result }
-        ensures no_url { UrlRefused (manifest_text self.old.settings image.now) result }
+        ensures invalid_url { UrlRefused (manifest_text self.old.settings image.now) result }
         ensures bad_header { HasBadHeader self.old.settings manifest_types → IsEarly result }
     {
         let call = Call {
@@ -144,14 +144,14 @@ impl Client {
         auth: &RegistryAuth,
     ) -> Result<(OciImageManifest, Text, Text), OciDistributionError>
         ensures run { Meets is_memory (pull_manifest_and_config (at_moment self.old moment) image.now auth.now)
-            (T.state transport.old) (T.state transport.new) (memory_of self.old) (memory_of self.new) result }
+            (T.state transport.old) (T.state transport.new) (auth_state_of self.old) (auth_state_of self.new) result }
         ensures settings { self.new.settings ≡ self.old.settings }
-        ensures confined { Stays self.old self.new moment image.now (Some auth.now)
+        ensures confined { StaysConfined self.old self.new moment image.now (Some auth.now)
             (T.state transport.old) (T.state transport.new) }
         ensures causes { RefusedFor (ConfigRefused self.old moment image.now auth.now)
             (T.state transport.old) (T.state transport.new) result }
         ensures fault { FaultCounted (T.state transport.old) (T.state transport.new) result }
-        ensures no_url { UrlRefused (manifest_text self.old.settings image.now) result }
+        ensures invalid_url { UrlRefused (manifest_text self.old.settings image.now) result }
         ensures bad_header { HasBadHeader self.old.settings manifest_types → IsEarly result }
     {
         let call = Call {

@@ -7,7 +7,7 @@ ghost use Rattle.engine_push.specs.Calls.{push_blob, push_blob_stream, push_blob
 ghost use Rattle.engine_push.specs.Sources.{Pushes, SourceCause};
 ghost use Rattle.push_laws.specs.Causes.{OfBytes, OfStream, OfNamedStream, OfNothing};
 ghost use Rattle.oci_engine.specs.Confinement.{StaysFor};
-ghost use Rattle.oci_engine.specs.Kept.{memory_of};
+ghost use Rattle.oci_engine.specs.Kept.{auth_state_of};
 ghost use Rattle.oci_engine.specs.PushRefusals.{PushRefused};
 ghost use Rattle.oci_engine.specs.Refusals.{RefusedFor, FaultCounted, at_moment};
 
@@ -36,7 +36,7 @@ impl Client {
         digest: &str,
     ) -> Result<Text, OciDistributionError>
         ensures run { Meets is_memory (push_blob (at_moment self.old moment) image_ref.now content.now digest.now)
-            (T.state transport.old) (T.state transport.new) (memory_of self.old) (memory_of self.new) result }
+            (T.state transport.old) (T.state transport.new) (auth_state_of self.old) (auth_state_of self.new) result }
         ensures settings { self.new.settings ≡ self.old.settings }
         ensures confined { StaysFor Push self.old self.new moment image_ref.now None
             (T.state transport.old) (T.state transport.new) }
@@ -73,7 +73,7 @@ impl Client {
         size: Option<u64>,
     ) -> Result<Text, OciDistributionError>
         ensures run { Meets is_memory (push_blob_stream (at_moment self.old moment) image.now blob_digest.now size)
-            (T.state transport.old) (T.state transport.new) (memory_of self.old) (memory_of self.new) result }
+            (T.state transport.old) (T.state transport.new) (auth_state_of self.old) (auth_state_of self.new) result }
         ensures settings { self.new.settings ≡ self.old.settings }
         ensures pushes { Pushes (P.state pieces.old) (P.state pieces.new)
             (T.state transport.old) (T.state transport.new) result }
@@ -117,7 +117,7 @@ impl Client {
         pieces: &mut P,
     ) -> Result<PushBlobStreamChunkedResponse, OciDistributionError>
         ensures run { Meets is_memory (push_blob_stream_chunked (at_moment self.old moment) image.now)
-            (T.state transport.old) (T.state transport.new) (memory_of self.old) (memory_of self.new) result }
+            (T.state transport.old) (T.state transport.new) (auth_state_of self.old) (auth_state_of self.new) result }
         ensures settings { self.new.settings ≡ self.old.settings }
         ensures pushes { Pushes (P.state pieces.old) (P.state pieces.new)
             (T.state transport.old) (T.state transport.new) result }
@@ -152,7 +152,7 @@ impl Client {
         digest: &str,
     ) -> Result<(), OciDistributionError>
         ensures run { Meets is_memory (mount_blob (at_moment self.old moment) image.now source.now digest.now)
-            (T.state transport.old) (T.state transport.new) (memory_of self.old) (memory_of self.new) result }
+            (T.state transport.old) (T.state transport.new) (auth_state_of self.old) (auth_state_of self.new) result }
         ensures settings { self.new.settings ≡ self.old.settings }
         ensures confined { StaysFor Push self.old self.new moment image.now None
             (T.state transport.old) (T.state transport.new) }

@@ -8,7 +8,7 @@ ghost use Rattle.engine_requests.specs.Requests.{manifest_types};
 ghost use Rattle.engine_rows.specs.Referrers.{pull_referrers};
 ghost use Rattle.engine_laws.specs.Causes.{HasBadHeader, IsEarly};
 ghost use Rattle.oci_engine.specs.Confinement.{StaysWithTag};
-ghost use Rattle.oci_engine.specs.Kept.{memory_of};
+ghost use Rattle.oci_engine.specs.Kept.{auth_state_of};
 ghost use Rattle.oci_engine.specs.Refusals.{RefusedFor, FaultCounted, UrlRefused, at_moment};
 ghost use Rattle.oci_engine.specs.Refusals.{ReferrersRefused, DigestWanted};
 
@@ -34,7 +34,7 @@ impl Client {
     ) -> Result<OciImageIndex, OciDistributionError>
         ensures run { Meets is_memory
             (pull_referrers (at_moment self.old moment) image.now (option_copied artifact_type.entry))
-            (T.state transport.old) (T.state transport.new) (memory_of self.old) (memory_of self.new) result }
+            (T.state transport.old) (T.state transport.new) (auth_state_of self.old) (auth_state_of self.new) result }
         ensures settings { self.new.settings ≡ self.old.settings }
         ensures confined { StaysWithTag self.old self.new moment image.now
             (T.state transport.old) (T.state transport.new) }
@@ -42,7 +42,7 @@ impl Client {
             (T.state transport.old) (T.state transport.new) result }
         ensures fault { FaultCounted (T.state transport.old) (T.state transport.new) result }
         ensures no_digest { DigestWanted image.now result }
-        ensures no_url { IfSome (digest_of image.now) (λ digest.
+        ensures invalid_url { IfSome (digest_of image.now) (λ digest.
             UrlRefused (referrers_text self.old.settings image.now digest) result) }
         ensures bad_header { IfSome (digest_of image.now) (λ digest.
             HasBadHeader self.old.settings manifest_types → IsEarly result) }

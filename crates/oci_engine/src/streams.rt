@@ -8,8 +8,8 @@ ghost use Rattle.engine_streams.specs.Blobs.{blob_stream, blob_stream_partial, o
 ghost use Rattle.engine_streams.specs.Blobs.{stream_in, IsLeft};
 ghost use Rattle.engine_streams.specs.Streams.{IsOpen, opening_of};
 ghost use Rattle.engine_laws.specs.Causes.{HasBadHeader, IsEarly, IsRefusedAs};
-ghost use Rattle.oci_engine.specs.Confinement.{Stays};
-ghost use Rattle.oci_engine.specs.Kept.{memory_of};
+ghost use Rattle.oci_engine.specs.Confinement.{StaysConfined};
+ghost use Rattle.oci_engine.specs.Kept.{auth_state_of};
 ghost use Rattle.oci_engine.specs.Refusals.{RefusedFor, FaultCounted, UrlRefused, at_moment};
 ghost use Rattle.oci_engine.specs.StreamRefusals.{StreamRefused, Overflows, Fits, range_of};
 
@@ -35,9 +35,9 @@ impl Client {
     ) -> Result<SizedStream, OciDistributionError>
         ensures run { Meets is_memory (blob_stream (at_moment self.old moment) image.now (L.layer layer.now))
             (T.state transport.old) (T.state transport.new)
-            (memory_of self.old) (memory_of self.new) (opening_in result) }
+            (auth_state_of self.old) (auth_state_of self.new) (opening_in result) }
         ensures settings { self.new.settings ≡ self.old.settings }
-        ensures confined { Stays self.old self.new moment image.now None
+        ensures confined { StaysConfined self.old self.new moment image.now None
             (T.state transport.old) (T.state transport.new) }
         ensures fresh { IfOk result (λ stream. IsOpen self.old.settings.max_body_bytes [] stream) }
         ensures left { IfOk result (λ stream. IsLeft None (L.layer layer.now).digest (opening_of stream)
@@ -45,7 +45,7 @@ impl Client {
         ensures causes { RefusedFor (StreamRefused None self.old moment image.now (L.layer layer.now))
             (T.state transport.old) (T.state transport.new) result }
         ensures fault { FaultCounted (T.state transport.old) (T.state transport.new) result }
-        ensures no_url { UrlRefused (blob_text self.old.settings image.now (L.layer layer.now).digest) result }
+        ensures invalid_url { UrlRefused (blob_text self.old.settings image.now (L.layer layer.now).digest) result }
         ensures bad_header { HasBadHeader self.old.settings manifest_types → IsEarly result }
     {
         let call = Call {
@@ -77,9 +77,9 @@ impl Client {
         ensures run { Meets is_memory
             (blob_stream_partial (at_moment self.old moment) image.now (L.layer layer.now) (range_of offset length))
             (T.state transport.old) (T.state transport.new)
-            (memory_of self.old) (memory_of self.new) (response_in result) }
+            (auth_state_of self.old) (auth_state_of self.new) (response_in result) }
         ensures settings { self.new.settings ≡ self.old.settings }
-        ensures confined { Stays self.old self.new moment image.now None
+        ensures confined { StaysConfined self.old self.new moment image.now None
             (T.state transport.old) (T.state transport.new) }
         ensures fresh { IfOk result (λ response. IsOpen self.old.settings.max_body_bytes [] (stream_in response)) }
         ensures left { IfOk result (λ response. IsLeft (Some (range_of offset length)) (L.layer layer.now).digest
@@ -90,7 +90,7 @@ impl Client {
         ensures fault { FaultCounted (T.state transport.old) (T.state transport.new) result }
         ensures past { Overflows (Some (range_of offset length))
             → IsRefusedAs (OciDistributionError.GenericError GenericCause.RangeOverflow) result }
-        ensures no_url { Fits (Some (range_of offset length))
+        ensures invalid_url { Fits (Some (range_of offset length))
             → UrlRefused (blob_text self.old.settings image.now (L.layer layer.now).digest) result }
         ensures bad_header { Fits (Some (range_of offset length))
             → HasBadHeader self.old.settings manifest_types → IsEarly result }

@@ -1,6 +1,6 @@
 ghost use Rattle.std.specs.Prelude.{◌≡◌, option_map, IfOk, Ok, false};
 ghost use Rattle.serde_json.specs.View.{view};
-ghost use Rattle.json_tables.specs.Outcomes.{Gives, ReadsDocument};
+ghost use Rattle.json_tables.specs.Outcomes.{ReadsTo, ReadsDocument};
 ghost use Rattle.oci_errors.specs.Envelope.{text_or_empty};
 
 use crate::error_code::OciErrorCode;
@@ -49,7 +49,7 @@ impl OciEnvelope {
 }
 
 fn text_or_empty(alloc: Global, member: Option<&Value>) -> Result<Text, ReadError>
-    ensures { Gives result (text_or_empty (option_map (λ v. view v.now) member.entry)) }
+    ensures { ReadsTo result (text_or_empty (option_map (λ v. view v.now) member.entry)) }
 {
     match member {
         Some(value) => Text::read_value(alloc, value),

@@ -77,7 +77,7 @@ impl Copied for FaultyShelf {
 
 impl Transport for FaultyShelf {
     ghost use Rattle.std.specs.Prelude.{true, false, IfOk, OnOk, IsErrOf};
-    ghost use Rattle.json_values.specs.Counts.{Rose, raised};
+    ghost use Rattle.json_values.specs.Counts.{Increased, incremented};
     ghost use Rattle.oci_transport.specs.Link.{Answers, AddsUnanswered, AddsAtMost, LeavesRest, Takes, Steady};
     ghost use Rattle.oci_link.specs.Served.{IsPieceOf};
     ghost use Rattle.oci_link.specs.State.{faulty_shelf_of, failing_sends, failing_pieces, next_send, next_piece};
@@ -99,13 +99,13 @@ impl Transport for FaultyShelf {
             → LeavesRest [] (faulty_state_of self.old) (faulty_state_of self.new) }
         ensures fails { IsErrOf result LinkError.Failed
             → is_among (next_send self.old) (failing_sends self.old) ≡ true }
-        ensures serves { OnOk result
+        ensures succeeds { OnOk result
             (is_among (next_send self.old) (failing_sends self.old) ≡ false) }
+        ensures counts_one { IsErrOf result LinkError.Failed
+            → (faulty_state_of self.new).faults ≡ incremented (faulty_state_of self.old).faults }
         ensures fault { IsErrOf result LinkError.Failed
-            → (faulty_state_of self.new).faults ≡ raised (faulty_state_of self.old).faults }
-        ensures rose { IsErrOf result LinkError.Failed
-            → Rose (faulty_state_of self.old).faults (faulty_state_of self.new).faults }
-        ensures quiet { OnOk result
+            → Increased (faulty_state_of self.old).faults (faulty_state_of self.new).faults }
+        ensures no_fault { OnOk result
             ((faulty_state_of self.new).faults ≡ (faulty_state_of self.old).faults) }
         ensures memory { IsErrOf result LinkError.WantOfMemory → self.new ≡ self.old }
         ensures at_most { IsErrOf result LinkError.WantOfMemory
@@ -126,9 +126,9 @@ impl Transport for FaultyShelf {
         ensures shelf { faulty_shelf_of self.new ≡ faulty_shelf_of self.old }
         ensures sends { failing_sends self.new ≡ failing_sends self.old }
         ensures pieces { failing_pieces self.new ≡ failing_pieces self.old }
-        ensures calls { OnOk result (next_piece self.new ≡ raised (next_piece self.old)) }
+        ensures calls { OnOk result (next_piece self.new ≡ incremented (next_piece self.old)) }
         ensures called { IsErrOf result LinkError.Failed
-            → next_piece self.new ≡ raised (next_piece self.old) }
+            → next_piece self.new ≡ incremented (next_piece self.old) }
         ensures told { (faulty_state_of self.new).told ≡ (faulty_state_of self.old).told }
         ensures steady { Steady (faulty_state_of self.old) (faulty_state_of self.new) }
         ensures count { (faulty_state_of self.old).faults ≤ (faulty_state_of self.new).faults }
@@ -139,13 +139,13 @@ impl Transport for FaultyShelf {
             → (faulty_state_of self.new).rest ≡ (faulty_state_of self.old).rest }
         ensures fails { IsErrOf result LinkError.Failed
             → is_among (next_piece self.old) (failing_pieces self.old) ≡ true }
-        ensures serves { OnOk result
+        ensures succeeds { OnOk result
             (is_among (next_piece self.old) (failing_pieces self.old) ≡ false) }
+        ensures counts_one { IsErrOf result LinkError.Failed
+            → (faulty_state_of self.new).faults ≡ incremented (faulty_state_of self.old).faults }
         ensures fault { IsErrOf result LinkError.Failed
-            → (faulty_state_of self.new).faults ≡ raised (faulty_state_of self.old).faults }
-        ensures rose { IsErrOf result LinkError.Failed
-            → Rose (faulty_state_of self.old).faults (faulty_state_of self.new).faults }
-        ensures quiet { OnOk result
+            → Increased (faulty_state_of self.old).faults (faulty_state_of self.new).faults }
+        ensures no_fault { OnOk result
             ((faulty_state_of self.new).faults ≡ (faulty_state_of self.old).faults) }
         ensures memory { IsErrOf result LinkError.WantOfMemory → self.new ≡ self.old }
     {

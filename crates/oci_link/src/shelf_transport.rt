@@ -47,7 +47,7 @@ impl Copied for ShelfTransport {
 
 impl Transport for ShelfTransport {
     ghost use Rattle.std.specs.Prelude.{IfOk, IsErrOf};
-    ghost use Rattle.json_values.specs.Counts.{Rose};
+    ghost use Rattle.json_values.specs.Counts.{Increased};
     ghost use Rattle.oci_transport.specs.Link.{Answers, AddsUnanswered, AddsAtMost, LeavesRest, Takes, Steady};
     ghost use Rattle.oci_link.specs.Served.{IsPieceOf};
     ghost use Rattle.oci_link.specs.State.{shelf_of, state_of};

@@ -1,7 +1,7 @@
 // Pieces in memory.
 ghost use Rattle.std.specs.Prelude.{◌≡◌, ◌≤◌, length, [], Some, Contains, IfOk, OnOk, OnErr, IsErrOf};
 ghost use Rattle.std.specs.Io.KnownBytes.{Keeps, IsAtEnd};
-ghost use Rattle.json_values.specs.Counts.{Rose, Stays, raised};
+ghost use Rattle.json_values.specs.Counts.{Increased, Unchanged, incremented};
 ghost use Rattle.oci_transport.specs.Pieces.{NoneEmpty, joined};
 
 use crate::piece_source::PieceSource;
@@ -22,13 +22,13 @@ pub struct MemoryPieces {
 }
 
 impl MemoryPieces {
-    ghost use Rattle.oci_pieces.specs.MemoryPieces.{spring, calls_of, failing_of};
+    ghost use Rattle.oci_pieces.specs.MemoryPieces.{source_state, calls_of, failing_of};
 
     /// Creates a source with all of the pieces left, none of which is empty.
     pub fn new(_alloc: Global, pieces: List<Blob>, failing: List<u64>) -> MemoryPieces
         requires { NoneEmpty pieces }
-        ensures left { (spring result).left ≡ Some (joined pieces) }
-        ensures faults { (spring result).faults ≡ 0 }
+        ensures left { (source_state result).left ≡ Some (joined pieces) }
+        ensures faults { (source_state result).faults ≡ 0 }
         ensures calls { calls_of result ≡ 0 }
         ensures failing { failing_of result ≡ failing }
     {
@@ -44,25 +44,26 @@ impl MemoryPieces {
 
 impl PieceSource for MemoryPieces {
     ghost use Rattle.pull_edge.specs.Source.{Takes};
-    ghost use Rattle.oci_pieces.specs.MemoryPieces.{spring, calls_of, failing_of};
+    ghost use Rattle.oci_pieces.specs.MemoryPieces.{source_state, calls_of, failing_of};
 
-    ghost state = { spring };
+    ghost state = { source_state };
 
     fn piece(&mut self, alloc: Global) -> Result<Blob, LinkError>
-        ensures count { (spring self.old).faults ≤ (spring self.new).faults }
-        ensures front { IfOk result (λ piece. Takes piece (spring self.old) (spring self.new)) }
-        ensures end { IfOk result (λ piece. piece ≡ [] → IsAtEnd (spring self.new).left) }
-        ensures fault { IsErrOf result LinkError.Failed → Rose (spring self.old).faults (spring self.new).faults }
-        ensures served { OnOk result (Stays (spring self.old).faults (spring self.new).faults) }
-        ensures stays { OnErr result (Keeps (spring self.old).left (spring self.new).left) }
-        ensures quiet { IsErrOf result LinkError.WantOfMemory
-            → Stays (spring self.old).faults (spring self.new).faults }
-        ensures raised { IsErrOf result LinkError.Failed
-            → (spring self.new).faults ≡ raised (spring self.old).faults }
-        ensures calls { calls_of self.new ≡ raised (calls_of self.old) }
+        ensures count { (source_state self.old).faults ≤ (source_state self.new).faults }
+        ensures prefix { IfOk result (λ piece. Takes piece (source_state self.old) (source_state self.new)) }
+        ensures end { IfOk result (λ piece. piece ≡ [] → IsAtEnd (source_state self.new).left) }
+        ensures fault { IsErrOf result LinkError.Failed
+            → Increased (source_state self.old).faults (source_state self.new).faults }
+        ensures no_fault { OnOk result (Unchanged (source_state self.old).faults (source_state self.new).faults) }
+        ensures stays { OnErr result (Keeps (source_state self.old).left (source_state self.new).left) }
+        ensures out_of_memory { IsErrOf result LinkError.WantOfMemory
+            → Unchanged (source_state self.old).faults (source_state self.new).faults }
+        ensures counts_one { IsErrOf result LinkError.Failed
+            → (source_state self.new).faults ≡ incremented (source_state self.old).faults }
+        ensures calls { calls_of self.new ≡ incremented (calls_of self.old) }
         ensures failing { failing_of self.new ≡ failing_of self.old }
         ensures fails { IsErrOf result LinkError.Failed → Contains (failing_of self.old) (calls_of self.old) }
-        ensures calm { OnOk result (Contains (failing_of self.old) (calls_of self.old) → ⊥) }
+        ensures succeeds { OnOk result (Contains (failing_of self.old) (calls_of self.old) → ⊥) }
     {
         let call = self.calls;
         self.calls = call.saturating_add(1);

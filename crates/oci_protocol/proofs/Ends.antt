@@ -3,7 +3,7 @@ use Rattle.std.specs.Prelude.{MatchBool}
 use Rattle.oci_transport.specs.Link.{Link}
 use Rattle.oci_transport.specs.declared.message.Exchange.{Exchange}
 use Rattle.oci_protocol.specs.Proto.{Proto, Done, Ask, Recall, Keep, Consult, bind, unless_refused, ◌>>=◌}
-use Rattle.oci_protocol.specs.Runs.{Runs, Performs, Breaks, Outcome, Meets}
+use Rattle.oci_protocol.specs.Runs.{Runs, Performs, PerformsPrefix, Outcome, Meets}
 use Rattle.oci_protocol.specs.Ends.{Ends, OnAnswer, UnlessMemory}
 
 -- if Q holds for every result, each protocol ends with Q
@@ -48,7 +48,7 @@ Meets-ends {K} {A} {E} {of_memory} Q {p} {old} {new} {k} {l} {r} h met = by_resu
   performed : (r : Result A E) → Performs p old new k l r → Q r
   performed r run = Runs-ends Q p k l old.faults new.faults run.conversation r h run.runs
 
-  by_memory : (b : Bool) (e : E) → MatchBool b (Breaks p old new k l) (Performs p old new k l (Err e)) → MatchBool b (Unit {0}) (Q (Err e))
+  by_memory : (b : Bool) (e : E) → MatchBool b (PerformsPrefix p old new k l) (Performs p old new k l (Err e)) → MatchBool b (Unit {0}) (Q (Err e))
   by_memory true e run = tt
   by_memory false e run = performed (Err e) run
 

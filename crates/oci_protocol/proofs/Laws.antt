@@ -6,7 +6,7 @@ use Rattle.oci_transport.specs.declared.message.Request.{Request}
 use Rattle.oci_transport.specs.declared.message.AnswerHead.{AnswerHead}
 use Rattle.oci_transport.specs.declared.message.Exchange.{Exchange}
 use Rattle.oci_protocol.specs.Proto.{Reading, Reply, Proto, Done, Ask, Recall, Keep, Consult, bind, unless_refused, ◌>>=◌}
-use Rattle.oci_protocol.specs.Runs.{Hears, Runs, RunsBy, Stops, Performs, Breaks, Outcome, Meets}
+use Rattle.oci_protocol.specs.Runs.{AddsExchange, Runs, RunsBy, RunPrefix, Performs, PerformsPrefix, Outcome, Meets}
 
 -- a run of p and a run of what its result leads to are together a run of `bind p f`
 pub Runs-bind : {K A B : Type 0} (p : Proto K A) (f : A → Proto K B) (k l j : K) (m n o : ℕ) (c d : List Exchange) (a : A) (b : B) → Runs p k m c n l a → Runs (f a) l n d o j b → Runs (bind p f) k m (c ++ d) o j b
@@ -42,37 +42,37 @@ RunsBy-runs t place (Keep kept rest) k l m n c a r = RunsBy-runs t place rest ke
 RunsBy-runs t place (Consult next) k l m n c a r = (r.0, RunsBy-runs t place (next r.0) k l m n c a r.1)
 
 -- no request has been made yet
-pub Stops-start : {K A : Type 0} (p : Proto K A) (k : K) (m : ℕ) → Stops p k m [] k
-unfolding Stops
-Stops-start (Done x) k m = refl
-Stops-start (Ask request reading next) k m = refl
-Stops-start (Recall next) k m = Stops-start (next k) k m
-Stops-start (Keep kept rest) k m = inl (refl, refl)
-Stops-start (Consult next) k m = (None, Stops-start (next None) k m)
+pub RunPrefix-start : {K A : Type 0} (p : Proto K A) (k : K) (m : ℕ) → RunPrefix p k m [] k
+unfolding RunPrefix
+RunPrefix-start (Done x) k m = refl
+RunPrefix-start (Ask request reading next) k m = refl
+RunPrefix-start (Recall next) k m = RunPrefix-start (next k) k m
+RunPrefix-start (Keep kept rest) k m = inl (refl, refl)
+RunPrefix-start (Consult next) k m = (None, RunPrefix-start (next None) k m)
 
 -- a prefix of a run of the first part is a prefix of a run of both
-pub Stops-first : {K A B : Type 0} (p : Proto K A) (f : A → Proto K B) (k l : K) (m : ℕ) (c : List Exchange) → Stops p k m c l → Stops (bind p f) k m c l
-unfolding Stops bind
-Stops-first (Done x) f k l m [] s = rw (← s) (Stops-start (f x) k m)
-Stops-first (Done x) f k l m (e ∷ c) s = absurd s
-Stops-first (Ask request reading next) f k l m [] s = s
-Stops-first (Ask request reading next) f k l m (e ∷ c) (inl s) = inl s
-Stops-first (Ask request reading next) f k l m (e ∷ c) (inr s) = inr (s.0, s.1, s.2, Stops-first (next s.1) f k l s.0 c s.3)
-Stops-first (Recall next) f k l m c s = Stops-first (next k) f k l m c s
-Stops-first (Keep kept rest) f k l m c (inl s) = inl s
-Stops-first (Keep kept rest) f k l m c (inr s) = inr (Stops-first rest f kept l m c s)
-Stops-first (Consult next) f k l m c s = (s.0, Stops-first (next s.0) f k l m c s.1)
+pub RunPrefix-first : {K A B : Type 0} (p : Proto K A) (f : A → Proto K B) (k l : K) (m : ℕ) (c : List Exchange) → RunPrefix p k m c l → RunPrefix (bind p f) k m c l
+unfolding RunPrefix bind
+RunPrefix-first (Done x) f k l m [] s = rw (← s) (RunPrefix-start (f x) k m)
+RunPrefix-first (Done x) f k l m (e ∷ c) s = absurd s
+RunPrefix-first (Ask request reading next) f k l m [] s = s
+RunPrefix-first (Ask request reading next) f k l m (e ∷ c) (inl s) = inl s
+RunPrefix-first (Ask request reading next) f k l m (e ∷ c) (inr s) = inr (s.0, s.1, s.2, RunPrefix-first (next s.1) f k l s.0 c s.3)
+RunPrefix-first (Recall next) f k l m c s = RunPrefix-first (next k) f k l m c s
+RunPrefix-first (Keep kept rest) f k l m c (inl s) = inl s
+RunPrefix-first (Keep kept rest) f k l m c (inr s) = inr (RunPrefix-first rest f kept l m c s)
+RunPrefix-first (Consult next) f k l m c s = (s.0, RunPrefix-first (next s.0) f k l m c s.1)
 
 -- a run of the first part and a prefix of what its result leads to are a prefix of a run of both
-pub Stops-second : {K A B : Type 0} (p : Proto K A) (f : A → Proto K B) (k l j : K) (m n : ℕ) (c d : List Exchange) (a : A) → Runs p k m c n l a → Stops (f a) l n d j → Stops (bind p f) k m (c ++ d) j
-unfolding Runs Stops bind
-Stops-second (Done x) f k l j m n [] d a r s = rw (r.2, r.1, r.0) s
-Stops-second (Done x) f k l j m n (e ∷ c) d a r s = absurd r
-Stops-second (Ask request reading next) f k l j m n [] d a r s = absurd r
-Stops-second (Ask request reading next) f k l j m n (e ∷ c) d a r s = inr (r.0, r.1, r.2, Stops-second (next r.1) f k l j r.0 n c d a r.3 s)
-Stops-second (Recall next) f k l j m n c d a r s = Stops-second (next k) f k l j m n c d a r s
-Stops-second (Keep kept rest) f k l j m n c d a r s = inr (Stops-second rest f kept l j m n c d a r s)
-Stops-second (Consult next) f k l j m n c d a r s = (r.0, Stops-second (next r.0) f k l j m n c d a r.1 s)
+pub RunPrefix-second : {K A B : Type 0} (p : Proto K A) (f : A → Proto K B) (k l j : K) (m n : ℕ) (c d : List Exchange) (a : A) → Runs p k m c n l a → RunPrefix (f a) l n d j → RunPrefix (bind p f) k m (c ++ d) j
+unfolding Runs RunPrefix bind
+RunPrefix-second (Done x) f k l j m n [] d a r s = rw (r.2, r.1, r.0) s
+RunPrefix-second (Done x) f k l j m n (e ∷ c) d a r s = absurd r
+RunPrefix-second (Ask request reading next) f k l j m n [] d a r s = absurd r
+RunPrefix-second (Ask request reading next) f k l j m n (e ∷ c) d a r s = inr (r.0, r.1, r.2, RunPrefix-second (next r.1) f k l j r.0 n c d a r.3 s)
+RunPrefix-second (Recall next) f k l j m n c d a r s = RunPrefix-second (next k) f k l j m n c d a r s
+RunPrefix-second (Keep kept rest) f k l j m n c d a r s = inr (RunPrefix-second rest f kept l j m n c d a r s)
+RunPrefix-second (Consult next) f k l j m n c d a r s = (r.0, RunPrefix-second (next r.0) f k l j m n c d a r.1 s)
 
 -- the fault count never decreases in a run
 pub Runs-count : {K A : Type 0} (p : Proto K A) (k l : K) (m n : ℕ) (c : List Exchange) (a : A) → Runs p k m c n l a → m ≤ n
@@ -101,32 +101,32 @@ Performs-bind {p} f {old} {mid} {new} {k} {l} {j} {a} {b} first second = record 
       (subst (λ q. RunsBy t q (f a) l mid.faults second.conversation new.faults j b) (length-append before first.conversation) behind);
 }
 
-pub Breaks-start : {K A : Type 0} (p : Proto K A) (link : Link) (k : K) → Breaks p link link k k
-Breaks-start p link k = record { conversation = []; told = Extends-none link; stops = Stops-start p k link.faults; count = omega arith }
+pub PerformsPrefix-start : {K A : Type 0} (p : Proto K A) (link : Link) (k : K) → PerformsPrefix p link link k k
+PerformsPrefix-start p link k = record { conversation = []; told = Extends-none link; stops = RunPrefix-start p k link.faults; count = omega arith }
 
-pub Breaks-first : {K A B : Type 0} {p : Proto K A} (f : A → Proto K B) {old new : Link} {k l : K} → Breaks p old new k l → Breaks (bind p f) old new k l
-Breaks-first {p} f {old} {new} {k} {l} first = record {
+pub PerformsPrefix-first : {K A B : Type 0} {p : Proto K A} (f : A → Proto K B) {old new : Link} {k l : K} → PerformsPrefix p old new k l → PerformsPrefix (bind p f) old new k l
+PerformsPrefix-first {p} f {old} {new} {k} {l} first = record {
   conversation = first.conversation;
   told = first.told;
-  stops = Stops-first p f k l old.faults first.conversation first.stops;
+  stops = RunPrefix-first p f k l old.faults first.conversation first.stops;
   count = first.count;
 }
 
-pub Breaks-second : {K A B : Type 0} {p : Proto K A} (f : A → Proto K B) {old mid new : Link} {k l j : K} {a : A} → Performs p old mid k l a → Breaks (f a) mid new l j → Breaks (bind p f) old new k j
-Breaks-second {p} f {old} {mid} {new} {k} {l} {j} {a} first second = record {
+pub PerformsPrefix-second : {K A B : Type 0} {p : Proto K A} (f : A → Proto K B) {old mid new : Link} {k l j : K} {a : A} → Performs p old mid k l a → PerformsPrefix (f a) mid new l j → PerformsPrefix (bind p f) old new k j
+PerformsPrefix-second {p} f {old} {mid} {new} {k} {l} {j} {a} first second = record {
   conversation = first.conversation ++ second.conversation;
   told = Extends-more old mid new first.conversation second.conversation first.told second.told;
-  stops = Stops-second p f k l j old.faults mid.faults first.conversation second.conversation a first.runs second.stops;
+  stops = RunPrefix-second p f k l j old.faults mid.faults first.conversation second.conversation a first.runs second.stops;
   count = omega (arith, Runs-count p k l old.faults mid.faults first.conversation a first.runs, second.count);
 }
 
 -- if each run of p extends to one of q, and each prefix likewise, then each outcome of p is one of q
 pub outcome_by : {K A E : Type 0} (of_memory : E → Bool) (p : Proto K (Result A E)) (q : Proto K (Result A E)) (old mid new : Link) (k j l : K)
-    → ((x : Result A E) → Performs p mid new j l x → Performs q old new k l x) → (Breaks p mid new j l → Breaks q old new k l)
+    → ((x : Result A E) → Performs p mid new j l x → Performs q old new k l x) → (PerformsPrefix p mid new j l → PerformsPrefix q old new k l)
     → (r : Result A E) → Outcome of_memory p mid new j l r → Outcome of_memory q old new k l r
 outcome_by of_memory p q old mid new k j l performs breaks (Ok a) h = performs (Ok a) h
 outcome_by {K} {A} {E} of_memory p q old mid new k j l performs breaks (Err e) h = refused (of_memory e) h where
-  refused : (b : Bool) → MatchBool b (Breaks p mid new j l) (Performs p mid new j l (Err e)) → MatchBool b (Breaks q old new k l) (Performs q old new k l (Err e))
+  refused : (b : Bool) → MatchBool b (PerformsPrefix p mid new j l) (Performs p mid new j l (Err e)) → MatchBool b (PerformsPrefix q old new k l) (Performs q old new k l (Err e))
   refused true h = breaks h
   refused false h = performs (Err e) h
 
@@ -134,15 +134,15 @@ outcome_by {K} {A} {E} of_memory p q old mid new k j l performs breaks (Err e) h
 pub Meets-next : {K A B E : Type 0} {of_memory : E → Bool} {p : Proto K (Result A E)} (f : A → Proto K (Result B E)) {old mid new : Link} {k l j : K} {a : A} {r : Result B E}
     → Meets of_memory p old mid k l (Ok a) → Meets of_memory (f a) mid new l j r → Meets of_memory (p >>= f) old new k j r
 Meets-next {of_memory} {p} f {old} {mid} {new} {k} {l} {j} {a} {r} first second = record {
-  outcome = outcome_by of_memory (f a) (p >>= f) old mid new k l j (λ x h. Performs-bind (unless_refused f) first.outcome h) (λ h. Breaks-second (unless_refused f) first.outcome h) r second.outcome;
+  outcome = outcome_by of_memory (f a) (p >>= f) old mid new k l j (λ x h. Performs-bind (unless_refused f) first.outcome h) (λ h. PerformsPrefix-second (unless_refused f) first.outcome h) r second.outcome;
 }
 
 -- a step that returned an error, or ran out of memory, ends the whole call
 pub Meets-refused : {K A B E : Type 0} {of_memory : E → Bool} {p : Proto K (Result A E)} (f : A → Proto K (Result B E)) {old new : Link} {k l : K} {e : E}
     → Meets of_memory p old new k l (Err e) → Meets of_memory (p >>= f) old new k l (Err e)
 Meets-refused {K} {A} {B} {E} {of_memory} {p} f {old} {new} {k} {l} {e} first = record { outcome = refused (of_memory e) first.outcome } where
-  refused : (b : Bool) → MatchBool b (Breaks p old new k l) (Performs p old new k l (Err e)) → MatchBool b (Breaks (p >>= f) old new k l) (Performs (p >>= f) old new k l (Err e))
-  refused true h = Breaks-first (unless_refused f) h
+  refused : (b : Bool) → MatchBool b (PerformsPrefix p old new k l) (Performs p old new k l (Err e)) → MatchBool b (PerformsPrefix (p >>= f) old new k l) (Performs (p >>= f) old new k l (Err e))
+  refused true h = PerformsPrefix-first (unless_refused f) h
   refused false h = Performs-bind (unless_refused f) h (Performs-done new l (Err e))
 
 -- the result is already `Ok`
@@ -155,14 +155,14 @@ Meets-err {K} {A} {E} of_memory link k e h = record { outcome = rw h (Performs-d
 
 -- memory ran out before a request was made
 pub Meets-memory : {K A E : Type 0} (of_memory : E → Bool) (p : Proto K (Result A E)) (link : Link) (k : K) (e : E) → of_memory e ≡ true → Meets of_memory p link link k k (Err e)
-Meets-memory of_memory p link k e h = record { outcome = rw h (Breaks-start p link k) }
+Meets-memory of_memory p link k e h = record { outcome = rw h (PerformsPrefix-start p link k) }
 
 performs-recall : {K A : Type 0} (next : K → Proto K A) {old new : Link} {k l : K} {x : A} → Performs (next k) old new k l x → Performs (Recall next) old new k l x
 unfolding Runs RunsBy
 performs-recall next h = record { conversation = h.conversation; told = h.told; runs = h.runs; runs_by = h.runs_by }
 
-breaks-recall : {K A : Type 0} (next : K → Proto K A) {old new : Link} {k l : K} → Breaks (next k) old new k l → Breaks (Recall next) old new k l
-unfolding Stops
+breaks-recall : {K A : Type 0} (next : K → Proto K A) {old new : Link} {k l : K} → PerformsPrefix (next k) old new k l → PerformsPrefix (Recall next) old new k l
+unfolding RunPrefix
 breaks-recall next h = record { conversation = h.conversation; told = h.told; stops = h.stops; count = h.count }
 
 -- the client state is read
@@ -175,8 +175,8 @@ performs-keep : {K A : Type 0} (kept : K) (rest : Proto K A) {old new : Link} {k
 unfolding Runs RunsBy
 performs-keep kept rest h = record { conversation = h.conversation; told = h.told; runs = h.runs; runs_by = h.runs_by }
 
-breaks-keep : {K A : Type 0} (kept : K) (rest : Proto K A) {old new : Link} {k l : K} → Breaks rest old new kept l → Breaks (Keep kept rest) old new k l
-unfolding Stops
+breaks-keep : {K A : Type 0} (kept : K) (rest : Proto K A) {old new : Link} {k l : K} → PerformsPrefix rest old new kept l → PerformsPrefix (Keep kept rest) old new k l
+unfolding RunPrefix
 breaks-keep kept rest h = record { conversation = h.conversation; told = h.told; stops = inr h.stops; count = h.count }
 
 -- the client state is replaced
@@ -189,8 +189,8 @@ performs-consult : {K A : Type 0} (next : Option (List ℕ) → Proto K A) (said
 unfolding Runs RunsBy
 performs-consult next said h = record { conversation = h.conversation; told = h.told; runs = (said, h.runs); runs_by = λ t before by told. (said, h.runs_by t before by told) }
 
-breaks-consult : {K A : Type 0} (next : Option (List ℕ) → Proto K A) (said : Option (List ℕ)) {old new : Link} {k l : K} → Breaks (next said) old new k l → Breaks (Consult next) old new k l
-unfolding Stops
+breaks-consult : {K A : Type 0} (next : Option (List ℕ) → Proto K A) (said : Option (List ℕ)) {old new : Link} {k l : K} → PerformsPrefix (next said) old new k l → PerformsPrefix (Consult next) old new k l
+unfolding RunPrefix
 breaks-consult next said h = record { conversation = h.conversation; told = h.told; stops = (said, h.stops); count = h.count }
 
 -- the external input is `said`
@@ -199,7 +199,7 @@ Meets-consult {of_memory} next said {old} {new} {k} {l} {r} rest = record {
   outcome = outcome_by of_memory (next said) (Consult next) old old new k k l (λ x h. performs-consult next said h) (λ h. breaks-consult next said h) r rest.outcome;
 }
 
-performs-ask : {K A : Type 0} {request : Request} {reading : AnswerHead → Reading} (next : Reply → Proto K A) {old mid new : Link} {k l : K} {reply : Reply} {x : A} → Hears request reading old mid reply → Performs (next reply) mid new k l x → Performs (Ask request reading next) old new k l x
+performs-ask : {K A : Type 0} {request : Request} {reading : AnswerHead → Reading} (next : Reply → Proto K A) {old mid new : Link} {k l : K} {reply : Reply} {x : A} → AddsExchange request reading old mid reply → Performs (next reply) mid new k l x → Performs (Ask request reading next) old new k l x
 unfolding Runs RunsBy
 performs-ask next {old} {mid} {new} {k} {l} {reply} {x} first h = record {
   conversation = first.exchange ∷ h.conversation;
@@ -211,8 +211,8 @@ performs-ask next {old} {mid} {new} {k} {l} {reply} {x} first h = record {
       (mid.faults, reply, first.replies, first.unbroken t before by told, subst (λ q. RunsBy t q (next reply) k mid.faults h.conversation new.faults l x) place behind);
 }
 
-breaks-ask : {K A : Type 0} {request : Request} {reading : AnswerHead → Reading} (next : Reply → Proto K A) {old mid new : Link} {k l : K} {reply : Reply} → Hears request reading old mid reply → Breaks (next reply) mid new k l → Breaks (Ask request reading next) old new k l
-unfolding Stops
+breaks-ask : {K A : Type 0} {request : Request} {reading : AnswerHead → Reading} (next : Reply → Proto K A) {old mid new : Link} {k l : K} {reply : Reply} → AddsExchange request reading old mid reply → PerformsPrefix (next reply) mid new k l → PerformsPrefix (Ask request reading next) old new k l
+unfolding RunPrefix
 breaks-ask next {old} {mid} {new} {reply} first h = record {
   conversation = first.exchange ∷ h.conversation;
   told = Extends-more old mid new (first.exchange ∷ []) h.conversation first.told h.told;
@@ -222,13 +222,13 @@ breaks-ask next {old} {mid} {new} {reply} first h = record {
 
 -- a request got this reply, and then what the reply leads to
 pub Meets-ask : {K A E : Type 0} {of_memory : E → Bool} {request : Request} {reading : AnswerHead → Reading} (next : Reply → Proto K (Result A E)) {old mid new : Link} {k l : K} {reply : Reply} {r : Result A E}
-    → Hears request reading old mid reply → Meets of_memory (next reply) mid new k l r → Meets of_memory (Ask request reading next) old new k l r
+    → AddsExchange request reading old mid reply → Meets of_memory (next reply) mid new k l r → Meets of_memory (Ask request reading next) old new k l r
 Meets-ask {of_memory} {request} {reading} next {old} {mid} {new} {k} {l} {reply} {r} first rest = record {
   outcome = outcome_by of_memory (next reply) (Ask request reading next) old mid new k k l (λ x h. performs-ask next first h) (λ h. breaks-ask next first h) r rest.outcome;
 }
 
-cut-stops : {K A : Type 0} (request : Request) (reading : AnswerHead → Reading) (next : Reply → Proto K A) (k : K) (m : ℕ) (c : List Exchange) → IsAtMost request m c → Stops (Ask request reading next) k m c k
-unfolding Stops
+cut-stops : {K A : Type 0} (request : Request) (reading : AnswerHead → Reading) (next : Reply → Proto K A) (k : K) (m : ℕ) (c : List Exchange) → IsAtMost request m c → RunPrefix (Ask request reading next) k m c k
+unfolding RunPrefix
 cut-stops request reading next k m [] h = refl
 cut-stops request reading next k m (e ∷ []) h = inl (h.0, h.1, refl, refl)
 cut-stops request reading next k m (e ∷ f ∷ c) h = absurd h
@@ -244,5 +244,5 @@ Meets-cut of_memory request reading next {old} k e cut le h = record {
 pub Meets-caught : {K A B E : Type 0} {of_memory : E → Bool} {p : Proto K A} (f : A → Proto K (Result B E)) {old mid new : Link} {k l j : K} {a : A} {r : Result B E}
     → Performs p old mid k l a → Meets of_memory (f a) mid new l j r → Meets of_memory (bind p f) old new k j r
 Meets-caught {of_memory} {p} f {old} {mid} {new} {k} {l} {j} {a} {r} first second = record {
-  outcome = outcome_by of_memory (f a) (bind p f) old mid new k l j (λ x h. Performs-bind f first h) (λ h. Breaks-second f first h) r second.outcome;
+  outcome = outcome_by of_memory (f a) (bind p f) old mid new k l j (λ x h. Performs-bind f first h) (λ h. PerformsPrefix-second f first h) r second.outcome;
 }

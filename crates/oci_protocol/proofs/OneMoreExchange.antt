@@ -1,5 +1,5 @@
 use Rattle.std.proofs.Common.{◌≡◌, ◌≢◌, ◌≤◌, ◌-◌, inl, inr, ℕ, suc, zero, List, [], ◌∷◌, ◌++◌, Some, None, refl, sym, ap, arith}
-use Rattle.json_values.specs.Counts.{Rose}
+use Rattle.json_values.specs.Counts.{Increased}
 use Rattle.oci_transport.specs.Link.{Link, Answers, AddsUnanswered, AddsAtMost, answer_of}
 use Rattle.oci_transport.specs.Redirects.{redirected}
 use Rattle.oci_transport.specs.declared.message.Request.{Request}
@@ -60,7 +60,7 @@ reaches_limit n request left last head old mid new follows sent le none = reache
 pub reaches_end : (n : ℕ) (request : Request) (left : ℕ) (last : Request) (head : AnswerHead) (old mid new : Link) → Follows n request left last old mid → Answers last head mid new → mid.faults ≤ new.faults → None ≡ redirected last head → Reaches n request head last old new
 reaches_end n request left last head old mid new follows sent le none = reaches n request left last head old mid new follows sent le (inr (sym none))
 
-pub misses : (n : ℕ) (request : Request) (left : ℕ) (last : Request) (old mid new : Link) → Follows n request left last old mid → AddsUnanswered last mid new → Rose mid.faults new.faults → mid.faults ≤ new.faults → Misses n request old new
+pub misses : (n : ℕ) (request : Request) (left : ℕ) (last : Request) (old mid new : Link) → Follows n request left last old mid → AddsUnanswered last mid new → Increased mid.faults new.faults → mid.faults ≤ new.faults → Misses n request old new
 misses n request left last old mid new follows added rose le = record { left = left; last = last; mid = mid; follows = follows; added = added; rose = rose; count = le }
 
 pub cuts : (n : ℕ) (request : Request) (left : ℕ) (last : Request) (old mid new : Link) → Follows n request left last old mid → AddsAtMost last mid new → mid.faults ≤ new.faults → Cuts n request old new

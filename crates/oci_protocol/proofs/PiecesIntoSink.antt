@@ -3,33 +3,33 @@ use Rattle.std.proofs.lemmas.List.{nil_from_length}
 use Rattle.oci_transport.specs.Link.{Link, Steady, Takes, TakesPast}
 use Rattle.oci_transport.proofs.TakenBytes.{taken_more, taken_ends, taken_past}
 use Rattle.oci_protocol.proofs.Conversations.{Steady-none}
-use Rattle.json_values.specs.Tray.{Tray, Adds, AddsFront}
+use Rattle.json_values.specs.SinkState.{SinkState, Adds, AddsPrefix}
 use Rattle.json_values.proofs.Sinks.{adds_none, adds_more}
 use Rattle.oci_digests.specs.declared.digester.Algorithm.{Algorithm}
 use Rattle.oci_digests.specs.declared.both.Digesters.{Digesters}
 use Rattle.oci_digests.specs.Both.{BothHold}
-use Rattle.oci_protocol.specs.Poured.{PouredSoFar, Pours, PoursFront}
+use Rattle.oci_protocol.specs.StreamedBody.{StreamedSoFar, StreamsBody, StreamsPrefix}
 
-pub record Poured (limit taken : ℕ) (from to : Digesters) (old new : Link) (before after : Tray) : Type 0 where
+pub record Poured (limit taken : ℕ) (from to : Digesters) (old new : Link) (before after : SinkState) : Type 0 where
   pub body : List ℕ
   pub taken_is : taken ≡ length body
   pub small : taken ≤ limit
-  pub so_far : PouredSoFar body from to old new before after
+  pub so_far : StreamedSoFar body from to old new before after
 
-pub poured_none : (limit : ℕ) (ds : Digesters) (link : Link) (tray : Tray) → Poured limit 0 ds ds link link tray tray
-poured_none limit ds link tray = record {
+pub poured_none : (limit : ℕ) (ds : Digesters) (link : Link) (sink : SinkState) → Poured limit 0 ds ds link link sink sink
+poured_none limit ds link sink = record {
   body = [];
   taken_is = refl;
   small = omega arith;
   so_far = record {
     taken = record { told = refl; count = omega arith; stays = Steady-none link; front = λ rest h. (rest, refl, h) };
-    put = adds_none tray tray refl;
+    put = adds_none sink sink refl;
     count = omega arith;
     hashed = λ a b h. h;
   };
 }
 
-pub poured_more : (limit taken : ℕ) (piece : List ℕ) (from to' to : Digesters) (old mid new : Link) (before between after : Tray) → Poured limit taken from to' old mid before between
+pub poured_more : (limit taken : ℕ) (piece : List ℕ) (from to' to : Digesters) (old mid new : Link) (before between after : SinkState) → Poured limit taken from to' old mid before between
     → new.told ≡ mid.told → Steady mid new → mid.faults ≤ new.faults → Takes piece mid new → length piece ≤ limit - taken
     → ((a : Option Algorithm) (b : Algorithm) (m : List ℕ) → BothHold to' a b m → BothHold to a b (m ++ piece))
     → between.faults ≤ after.faults → Adds piece between after
@@ -47,7 +47,7 @@ poured_more limit taken piece from to' to old mid new before between after p tol
 }
 
 -- an empty piece ends the body
-pub poured_whole : (limit taken : ℕ) (piece : List ℕ) (from to : Digesters) (old mid new : Link) (before after : Tray) → Poured limit taken from to old mid before after → Takes piece mid new → length piece ≡ 0 → Pours limit from to old new before after
+pub poured_whole : (limit taken : ℕ) (piece : List ℕ) (from to : Digesters) (old mid new : Link) (before after : SinkState) → Poured limit taken from to old mid before after → Takes piece mid new → length piece ≡ 0 → StreamsBody limit from to old new before after
 poured_whole limit taken piece from to old mid new before after p takes empty = record {
   body = p.body;
   small = omega (arith, p.small, p.taken_is);
@@ -61,7 +61,7 @@ poured_whole limit taken piece from to old mid new before after p takes empty = 
 }
 
 -- what the sink has accepted so far is a prefix of the body
-pub poured_front : (limit taken : ℕ) (from to : Digesters) (old mid : Link) (before after new : Tray) → Poured limit taken from to old mid before after → Adds [] after new → PoursFront old before new
+pub poured_front : (limit taken : ℕ) (from to : Digesters) (old mid : Link) (before after new : SinkState) → Poured limit taken from to old mid before after → Adds [] after new → StreamsPrefix old before new
 poured_front limit taken from to old mid before after new p none = record {
   front = p.body;
   part = λ rest h. let first = p.so_far.taken.front rest h in (first.0, first.1);
@@ -69,7 +69,7 @@ poured_front limit taken from to old mid before after new p none = record {
 }
 
 -- this also holds when a prefix of the next piece is added
-pub poured_part : (limit taken : ℕ) (piece : List ℕ) (from to : Digesters) (old mid new : Link) (before between after : Tray) → Poured limit taken from to old mid before between → Takes piece mid new → AddsFront piece between after → PoursFront old before after
+pub poured_part : (limit taken : ℕ) (piece : List ℕ) (from to : Digesters) (old mid new : Link) (before between after : SinkState) → Poured limit taken from to old mid before between → Takes piece mid new → AddsPrefix piece between after → StreamsPrefix old before after
 poured_part limit taken piece from to old mid new before between after p takes part = record {
   front = p.body ++ part.front;
   part = λ rest h.
@@ -79,5 +79,5 @@ poured_part limit taken piece from to old mid new before between after p takes p
   put = adds_more p.body part.front before between after p.so_far.put part.added;
 }
 
-pub poured_long : (limit taken : ℕ) (piece : List ℕ) (from to : Digesters) (old mid new : Link) (before after : Tray) → Poured limit taken from to old mid before after → Takes piece mid new → limit - taken < length piece → TakesPast limit old new
+pub poured_long : (limit taken : ℕ) (piece : List ℕ) (from to : Digesters) (old mid new : Link) (before after : SinkState) → Poured limit taken from to old mid before after → Takes piece mid new → limit - taken < length piece → TakesPast limit old new
 poured_long limit taken piece from to old mid new before after p takes long = taken_past limit p.body piece old mid new p.so_far.taken (omega (arith, p.taken_is, p.small)) takes (omega (arith, p.taken_is, long))

@@ -1,6 +1,6 @@
 use Rattle.std.proofs.Common.{◌≡◌, ◌≤◌, ◌<◌, ◌+◌, inl, inr, ℕ, suc, zero, Bool, true, List, [], ◌∷◌, ◌++◌, Option, Some, None, Result, Err, length, length-append, replicate, refl, sym, ap, subst, ◌∙◌, arith}
 use Rattle.std.proofs.lemmas.List.{length-replicate}
-use Rattle.json_values.specs.Counts.{Rose}
+use Rattle.json_values.specs.Counts.{Increased}
 use Rattle.oci_transport.specs.Link.{Link, Answering, Answers, Extends, AddsAtMost, Steady, BreaksOff, IsPast, EndsUnbroken, TakesPast, answer_of, exchange_of}
 use Rattle.oci_transport.specs.Redirects.{redirected}
 use Rattle.oci_transport.specs.declared.message.Request.{Request}
@@ -8,7 +8,7 @@ use Rattle.oci_transport.specs.declared.message.Answer.{Answer}
 use Rattle.oci_transport.specs.declared.message.AnswerHead.{AnswerHead}
 use Rattle.oci_transport.specs.declared.message.Exchange.{Exchange}
 use Rattle.oci_protocol.specs.Proto.{Reading, Unread, Piped, limit_of, read_none, Reply, Headed, Answered, Failed, TooLong, SinkFailed, Proto}
-use Rattle.oci_protocol.specs.Runs.{head_part, IsUnbroken, Replies, Hears, Runs, RunsBy, Stops, Performs, Breaks, Meets}
+use Rattle.oci_protocol.specs.Runs.{head_part, IsUnbroken, Replies, AddsExchange, Runs, RunsBy, RunPrefix, Performs, PerformsPrefix, Meets}
 use Rattle.oci_protocol.specs.Follow.{unread_if, turned, turn, follow, reading_at, Trail, Follows, IsFinal, Reaches, Misses, Cuts}
 use Rattle.oci_protocol.proofs.Conversations.{Extends-more, Extends-still, Extends-untold, Steady-more}
 use Rattle.oci_protocol.proofs.Laws.{Meets-ask, Meets-cut, outcome_by}
@@ -43,8 +43,8 @@ trail_runs_by t place (suc n) request reading next m (e ∷ c) left last between
     (h.0, Headed h.1, turned_replies request reading m e h.0 h.1 h.2 h.3 h.4, tt, rw h.3 (trail_runs_by t (suc place) n h.2 reading next h.0 c left last between k d after l a h.5 (subst (λ q. RunsBy t q (follow left last reading next) k between d after l a) (omega arith) r)))
 
 trail_stops : {K A : Type 0} (n : ℕ) (request : Request) (reading : AnswerHead → Reading) (next : Request → Reply → Proto K A) (m : ℕ) (c : List Exchange) (left : ℕ) (last : Request) (between : ℕ) (k : K) (d : List Exchange) (l : K)
-    → Trail n request m c left last between → Stops (follow left last reading next) k between d l → Stops (follow n request reading next) k m (c ++ d) l
-unfolding Trail Stops follow
+    → Trail n request m c left last between → RunPrefix (follow left last reading next) k between d l → RunPrefix (follow n request reading next) k m (c ++ d) l
+unfolding Trail RunPrefix follow
 trail_stops n request reading next m [] left last between k d l t s = rw (t.0, t.1, t.2) s
 trail_stops zero request reading next m (e ∷ c) left last between k d l t s = absurd t
 trail_stops (suc n) request reading next m (e ∷ c) left last between k d l t s =
@@ -64,7 +64,7 @@ follows_met {K} {A} {E} {of_memory} n request reading next left last old mid {ne
         trail_runs_by t (length before) n request reading next old.faults f.conversation left last mid.faults k h.conversation new.faults l x f.trail (subst (λ q. RunsBy t q (follow left last reading next) k mid.faults h.conversation new.faults l x) (length-append before f.conversation) behind);
   }
 
-  breaks : Breaks (follow left last reading next) mid new k l → Breaks (follow n request reading next) old new k l
+  breaks : PerformsPrefix (follow left last reading next) mid new k l → PerformsPrefix (follow n request reading next) old new k l
   breaks h = record { conversation = f.conversation ++ h.conversation; told = Extends-more old mid new f.conversation h.conversation f.told h.told; stops = trail_stops n request reading next old.faults f.conversation left last mid.faults k h.conversation l f.trail h.stops; count = omega (arith, follows_count n request left last old mid f, h.count) }
 
 -- the last response is parsed by the given reading
@@ -80,7 +80,7 @@ Stays left last (Headed head) = IsFinal left last head
 Stays left last reply = Unit {0}
 
 follow_asked : {K A E : Type 0} {of_memory : E → Bool} (left : ℕ) (last : Request) (reading : AnswerHead → Reading) (next : Request → Reply → Proto K (Result A E)) (reply : Reply) {old mid new : Link} {k l : K} {r : Result A E}
-    → Stays left last reply → Hears last (reading_at left last reading) old mid reply → Meets of_memory (next last reply) mid new k l r → Meets of_memory (follow left last reading next) old new k l r
+    → Stays left last reply → AddsExchange last (reading_at left last reading) old mid reply → Meets of_memory (next last reply) mid new k l r → Meets of_memory (follow left last reading next) old new k l r
 unfolding follow reading_at
 follow_asked zero last reading next reply stays h rest = Meets-ask (next last) h rest
 follow_asked {K} {A} {E} (suc left) last reading next (Headed head) (inl none) h rest = absurd (cc none)
@@ -121,7 +121,7 @@ pub reached_answered : {K A E : Type 0} {of_memory : E → Bool} (n : ℕ) (requ
     → Meets of_memory (next last (Answered (answer_of head body))) new end k l r → Meets of_memory (follow n request reading next) old end k l r
 reached_answered n request reading next head last limit body {old} {mid} {new} reach is le same steady small whole unbroken rest = follows_met n request reading next reach.left last old reach.mid reach.follows
     (follow_asked reach.left last reading next (Answered (answer_of head body)) tt (by_told reach.mid.told refl) rest) where
-      hears : Extends reach.mid new (record { request = last; answer = Some (answer_of head body); faults = reach.mid.faults } ∷ []) → Hears last (reading_at reach.left last reading) reach.mid new (Answered (answer_of head body))
+      hears : Extends reach.mid new (record { request = last; answer = Some (answer_of head body); faults = reach.mid.faults } ∷ []) → AddsExchange last (reading_at reach.left last reading) reach.mid new (Answered (answer_of head body))
       hears told = record {
         exchange = record { request = last; answer = Some (answer_of head body); faults = reach.mid.faults };
         told = told;
@@ -129,7 +129,7 @@ reached_answered n request reading next head last limit body {old} {mid} {new} r
         unbroken = λ t before by shown bytes breaks. unbroken _ _ bytes (breaks_at head last reach.mid mid reach.sent t before bytes by shown breaks);
       }
 
-      by_told : (t : Option (List Exchange)) → reach.mid.told ≡ t → Hears last (reading_at reach.left last reading) reach.mid new (Answered (answer_of head body))
+      by_told : (t : Option (List Exchange)) → reach.mid.told ≡ t → AddsExchange last (reading_at reach.left last reading) reach.mid new (Answered (answer_of head body))
       by_told None none = hears (Extends-untold reach.mid new _ none (Steady-more reach.mid mid new reach.sent.added.stays steady))
       by_told (Some before) h = hears (rw (whole reach.sent.body (reach.sent.rest before h)) (Extends-still reach.mid mid new _ reach.sent.added same steady))
 
@@ -163,7 +163,7 @@ reached_long n request reading next head last limit {old} {mid} {new} reach is l
           let past = long.past reach.sent.body (reach.sent.rest before shown) in
           long.unbroken _ _ bytes (breaks_at head last reach.mid mid reach.sent t before bytes by shown breaks) (past.0, past.1, omega (arith, small, same, past.2))
 
-      hears : (body : List ℕ) → limit < length body → Extends reach.mid new (exchange_of last (Some (answer_of head body)) reach.mid ∷ []) → ((t : Answering) (before : List Exchange) → reach.mid.answers ≡ Some t → reach.mid.told ≡ Some before → IsUnbroken t (length before) read (exchange_of last (Some (answer_of head body)) reach.mid) new.faults TooLong) → Hears last read reach.mid new TooLong
+      hears : (body : List ℕ) → limit < length body → Extends reach.mid new (exchange_of last (Some (answer_of head body)) reach.mid ∷ []) → ((t : Answering) (before : List Exchange) → reach.mid.answers ≡ Some t → reach.mid.told ≡ Some before → IsUnbroken t (length before) read (exchange_of last (Some (answer_of head body)) reach.mid) new.faults TooLong) → AddsExchange last read reach.mid new TooLong
       hears body h told unbroken = record {
         exchange = record { request = last; answer = Some (answer_of head body); faults = reach.mid.faults };
         told = told;
@@ -171,13 +171,13 @@ reached_long n request reading next head last limit {old} {mid} {new} reach is l
         unbroken = unbroken;
       }
 
-      by_told : (t : Option (List Exchange)) → reach.mid.told ≡ t → Hears last (reading_at reach.left last reading) reach.mid new TooLong
+      by_told : (t : Option (List Exchange)) → reach.mid.told ≡ t → AddsExchange last (reading_at reach.left last reading) reach.mid new TooLong
       by_told None none = hears (replicate (limit + 1) 0) (omega (arith, length-replicate {A = ℕ} (limit + 1) 0)) (Extends-untold reach.mid new _ none (Steady-more reach.mid mid new reach.sent.added.stays steady)) (λ t before by shown. absurd (cc (none, shown)))
       by_told (Some before) h = hears reach.sent.body (longer reach.sent.body limit new (long.past reach.sent.body (reach.sent.rest before h))) (Extends-still reach.mid mid new _ reach.sent.added same steady) passed
 
 -- a fault occurred while the body was read
 pub reached_failed : {K A E : Type 0} {of_memory : E → Bool} (n : ℕ) (request : Request) (reading : AnswerHead → Reading) (next : Request → Reply → Proto K (Result A E)) (head : AnswerHead) (last : Request) {old mid new end : Link} {k l : K} {r : Result A E}
-    → Reaches n request head last old mid → mid.faults ≤ new.faults → new.told ≡ mid.told → Steady mid new → Rose mid.faults new.faults
+    → Reaches n request head last old mid → mid.faults ≤ new.faults → new.told ≡ mid.told → Steady mid new → Increased mid.faults new.faults
     → Meets of_memory (next last Failed) new end k l r → Meets of_memory (follow n request reading next) old end k l r
 reached_failed n request reading next head last {old} {mid} {new} reach le same steady rose rest = follows_met n request reading next reach.left last old reach.mid reach.follows
     (follow_asked reach.left last reading next Failed tt (record {

@@ -4,7 +4,7 @@ use Rattle.oci_transport.specs.Link.{Link}
 use Rattle.oci_transport.specs.declared.message.Request.{Request}
 use Rattle.oci_transport.specs.declared.message.Exchange.{Exchange}
 use Rattle.oci_protocol.specs.Proto.{Proto, Done, Ask, Recall, Keep, Consult}
-use Rattle.oci_protocol.specs.Runs.{Runs, Stops, Performs, Meets, Told}
+use Rattle.oci_protocol.specs.Runs.{Runs, RunPrefix, Performs, Meets, Told}
 use Rattle.oci_protocol.specs.Safe.{Safe}
 
 -- Q holds for the result of a run, after the exchanges before it and its own
@@ -42,18 +42,18 @@ pub record KeptAfter {K : Type 0} (I : K → List Exchange → Type 0) (l : K) (
   pub holds : I l front
 
 -- if a run was cut off, the client state had I when it was stored
-pub Stops-kept : {K A : Type 0} (P : K → List Exchange → Request → Type 0) (I : K → List Exchange → Type 0) (Q : K → List Exchange → A → Type 0) (p : Proto K A) (k l : K) (m : ℕ) (before since c : List Exchange) → I k before → Safe P I Q k (before ++ since) p → Stops p k m c l → KeptAfter I l (before ++ since ++ c)
-unfolding Safe Stops
-Stops-kept P I Q (Done x) k l m before since [] i h s = record { front = before; rest = since; split = append-nil (before ++ since); holds = rw (← s) i }
-Stops-kept P I Q (Done x) k l m before since (e ∷ c) i h s = absurd s
-Stops-kept P I Q (Ask request reading next) k l m before since [] i h s = record { front = before; rest = since; split = append-nil (before ++ since); holds = rw (← s) i }
-Stops-kept P I Q (Ask request reading next) k l m before since (e ∷ c) i h (inl s) = record { front = before; rest = since ++ e ∷ c; split = append_assoc before since (e ∷ c); holds = rw (← s.3) i }
-Stops-kept P I Q (Ask request reading next) k l m before since (e ∷ c) i h (inr s) =
+pub RunPrefix-kept : {K A : Type 0} (P : K → List Exchange → Request → Type 0) (I : K → List Exchange → Type 0) (Q : K → List Exchange → A → Type 0) (p : Proto K A) (k l : K) (m : ℕ) (before since c : List Exchange) → I k before → Safe P I Q k (before ++ since) p → RunPrefix p k m c l → KeptAfter I l (before ++ since ++ c)
+unfolding Safe RunPrefix
+RunPrefix-kept P I Q (Done x) k l m before since [] i h s = record { front = before; rest = since; split = append-nil (before ++ since); holds = rw (← s) i }
+RunPrefix-kept P I Q (Done x) k l m before since (e ∷ c) i h s = absurd s
+RunPrefix-kept P I Q (Ask request reading next) k l m before since [] i h s = record { front = before; rest = since; split = append-nil (before ++ since); holds = rw (← s) i }
+RunPrefix-kept P I Q (Ask request reading next) k l m before since (e ∷ c) i h (inl s) = record { front = before; rest = since ++ e ∷ c; split = append_assoc before since (e ∷ c); holds = rw (← s.3) i }
+RunPrefix-kept P I Q (Ask request reading next) k l m before since (e ∷ c) i h (inr s) =
     let safe : Safe P I Q k (before ++ (since ++ e ∷ [])) (next s.1) = subst (λ seen. Safe P I Q k seen (next s.1)) (append_assoc before since (e ∷ [])) (h.1 e m s.0 s.1 s.2) in
-    subst (KeptAfter I l) (ap (λ x. x ++ c) (sym (append_assoc before since (e ∷ []))) ∙ append_assoc (before ++ since) (e ∷ []) c) (Stops-kept P I Q (next s.1) k l s.0 before (since ++ e ∷ []) c i safe s.3)
-Stops-kept P I Q (Recall next) k l m before since c i h s = Stops-kept P I Q (next k) k l m before since c i h s
-Stops-kept P I Q (Consult next) k l m before since c i h s = Stops-kept P I Q (next s.0) k l m before since c i (h s.0) s.1
-Stops-kept P I Q (Keep kept rest) k l m before since c i h (inl s) = record { front = before; rest = since ++ c; split = append_assoc before since c; holds = rw (← s.1) i }
-Stops-kept P I Q (Keep kept rest) k l m before since c i h (inr s) =
+    subst (KeptAfter I l) (ap (λ x. x ++ c) (sym (append_assoc before since (e ∷ []))) ∙ append_assoc (before ++ since) (e ∷ []) c) (RunPrefix-kept P I Q (next s.1) k l s.0 before (since ++ e ∷ []) c i safe s.3)
+RunPrefix-kept P I Q (Recall next) k l m before since c i h s = RunPrefix-kept P I Q (next k) k l m before since c i h s
+RunPrefix-kept P I Q (Consult next) k l m before since c i h s = RunPrefix-kept P I Q (next s.0) k l m before since c i (h s.0) s.1
+RunPrefix-kept P I Q (Keep kept rest) k l m before since c i h (inl s) = record { front = before; rest = since ++ c; split = append_assoc before since c; holds = rw (← s.1) i }
+RunPrefix-kept P I Q (Keep kept rest) k l m before since c i h (inr s) =
     let safe : Safe P I Q kept ((before ++ since) ++ []) rest = subst (λ seen. Safe P I Q kept seen rest) (sym (append-nil (before ++ since))) h.1 in
-    subst (KeptAfter I l) (ap (λ x. x ++ c) (append-nil (before ++ since))) (Stops-kept P I Q rest kept l m (before ++ since) [] c h.0 safe s)
+    subst (KeptAfter I l) (ap (λ x. x ++ c) (append-nil (before ++ since))) (RunPrefix-kept P I Q rest kept l m (before ++ since) [] c h.0 safe s)

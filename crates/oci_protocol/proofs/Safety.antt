@@ -6,7 +6,7 @@ use Rattle.oci_transport.specs.declared.message.Request.{Request}
 use Rattle.oci_transport.specs.declared.message.AnswerHead.{AnswerHead}
 use Rattle.oci_transport.specs.declared.message.Exchange.{Exchange}
 use Rattle.oci_protocol.specs.Proto.{Reading, Reply, Headed, Answered, Failed, TooLong, SinkFailed, Proto, Done, Ask, Recall, Keep, Consult, bind, unless_refused, ◌>>=◌}
-use Rattle.oci_protocol.specs.Runs.{Replies, Runs, Stops, Performs, Breaks, Outcome, Meets, Told}
+use Rattle.oci_protocol.specs.Runs.{Replies, Runs, RunPrefix, Performs, PerformsPrefix, Outcome, Meets, Told}
 use Rattle.oci_protocol.specs.Follow.{go_if, turn, turned, follow}
 use Rattle.oci_protocol.specs.Safe.{Safe, EachAfter}
 
@@ -87,18 +87,18 @@ Runs-safe P I Q (Recall next) k l m n seen c a h r = Runs-safe P I Q (next k) k 
 Runs-safe P I Q (Keep kept rest) k l m n seen c a h r = Runs-safe P I Q rest kept l m n seen c a h.1 r
 Runs-safe P I Q (Consult next) k l m n seen c a h r = Runs-safe P I Q (next r.0) k l m n seen c a (h r.0) r.1
 
-pub Stops-safe : {K A : Type 0} (P : List Exchange → Request → Type 0) (I : K → List Exchange → Type 0) (Q : K → List Exchange → A → Type 0) (p : Proto K A) (k l : K) (m : ℕ) (seen c : List Exchange) → Safe (λ k. P) I Q k seen p → Stops p k m c l → EachAfter P seen c
-unfolding Safe Stops
-Stops-safe P I Q (Done x) k l m seen [] h s = tt
-Stops-safe P I Q (Done x) k l m seen (e ∷ c) h s = absurd s
-Stops-safe P I Q (Ask request reading next) k l m seen [] h s = tt
-Stops-safe P I Q (Ask request reading next) k l m seen (e ∷ c) h (inl s) = (rw s.0 h.0, rw s.2 tt)
-Stops-safe P I Q (Ask request reading next) k l m seen (e ∷ c) h (inr s) = (rw s.2.request_is h.0, Stops-safe P I Q (next s.1) k l s.0 (seen ++ e ∷ []) c (h.1 e m s.0 s.1 s.2) s.3)
-Stops-safe P I Q (Recall next) k l m seen c h s = Stops-safe P I Q (next k) k l m seen c h s
-Stops-safe P I Q (Consult next) k l m seen c h s = Stops-safe P I Q (next s.0) k l m seen c (h s.0) s.1
-Stops-safe P I Q (Keep kept rest) k l m seen [] h s = tt
-Stops-safe P I Q (Keep kept rest) k l m seen (e ∷ c) h (inl s) = absurd (cc (s.0))
-Stops-safe P I Q (Keep kept rest) k l m seen (e ∷ c) h (inr s) = Stops-safe P I Q rest kept l m seen (e ∷ c) h.1 s
+pub RunPrefix-safe : {K A : Type 0} (P : List Exchange → Request → Type 0) (I : K → List Exchange → Type 0) (Q : K → List Exchange → A → Type 0) (p : Proto K A) (k l : K) (m : ℕ) (seen c : List Exchange) → Safe (λ k. P) I Q k seen p → RunPrefix p k m c l → EachAfter P seen c
+unfolding Safe RunPrefix
+RunPrefix-safe P I Q (Done x) k l m seen [] h s = tt
+RunPrefix-safe P I Q (Done x) k l m seen (e ∷ c) h s = absurd s
+RunPrefix-safe P I Q (Ask request reading next) k l m seen [] h s = tt
+RunPrefix-safe P I Q (Ask request reading next) k l m seen (e ∷ c) h (inl s) = (rw s.0 h.0, rw s.2 tt)
+RunPrefix-safe P I Q (Ask request reading next) k l m seen (e ∷ c) h (inr s) = (rw s.2.request_is h.0, RunPrefix-safe P I Q (next s.1) k l s.0 (seen ++ e ∷ []) c (h.1 e m s.0 s.1 s.2) s.3)
+RunPrefix-safe P I Q (Recall next) k l m seen c h s = RunPrefix-safe P I Q (next k) k l m seen c h s
+RunPrefix-safe P I Q (Consult next) k l m seen c h s = RunPrefix-safe P I Q (next s.0) k l m seen c (h s.0) s.1
+RunPrefix-safe P I Q (Keep kept rest) k l m seen [] h s = tt
+RunPrefix-safe P I Q (Keep kept rest) k l m seen (e ∷ c) h (inl s) = absurd (cc (s.0))
+RunPrefix-safe P I Q (Keep kept rest) k l m seen (e ∷ c) h (inr s) = RunPrefix-safe P I Q rest kept l m seen (e ∷ c) h.1 s
 
 -- each request of a call may be sent after the exchanges before it
 pub Meets-safe : {K A E : Type 0} {of_memory : E → Bool} (P : List Exchange → Request → Type 0) (I : K → List Exchange → Type 0) (Q : K → List Exchange → Result A E → Type 0) {p : Proto K (Result A E)} {old new : Link} {k l : K} {r : Result A E} → Safe (λ k. P) I Q k [] p → Meets of_memory p old new k l r → Told (EachAfter P []) old new
@@ -106,8 +106,8 @@ Meets-safe {K} {A} {E} {of_memory} P I Q {p} {old} {new} {k} {l} {r} h met = by_
   performed : (r : Result A E) → Performs p old new k l r → Told (EachAfter P []) old new
   performed r done = record { conversation = done.conversation; told = done.told; holds = (Runs-safe P I Q p k l old.faults new.faults [] done.conversation r h done.runs).each }
 
-  by_memory : (b : Bool) (e : E) → MatchBool b (Breaks p old new k l) (Performs p old new k l (Err e)) → Told (EachAfter P []) old new
-  by_memory true e broken = record { conversation = broken.conversation; told = broken.told; holds = Stops-safe P I Q p k l old.faults [] broken.conversation h broken.stops }
+  by_memory : (b : Bool) (e : E) → MatchBool b (PerformsPrefix p old new k l) (Performs p old new k l (Err e)) → Told (EachAfter P []) old new
+  by_memory true e broken = record { conversation = broken.conversation; told = broken.told; holds = RunPrefix-safe P I Q p k l old.faults [] broken.conversation h broken.stops }
   by_memory false e done = performed (Err e) done
 
   by_result : (r : Result A E) → Outcome of_memory p old new k l r → Told (EachAfter P []) old new

@@ -12,7 +12,7 @@ use Rattle.oci_protocol.specs.Proto.{Reading, Unread, Within, Piped, limit_of, R
 use Rattle.oci_protocol.specs.Runs.{head_part, IsReply, Runs}
 use Rattle.oci_protocol.specs.Ends.{Ends}
 use Rattle.oci_protocol.specs.Follow.{unread_if, turned, go_if, turn, follow}
-use Rattle.oci_protocol.specs.Drive.{reply_of, reply_to, Driven, driven, Drives, Spilt}
+use Rattle.oci_protocol.specs.Evaluation.{reply_of, reply_to, Evaluation, evaluation, Evaluates, EndsOnSinkFault}
 use Rattle.oci_protocol.proofs.Ends.{Runs-ends}
 use Rattle.oci_protocol.proofs.Laws.{Runs-count}
 
@@ -36,12 +36,12 @@ one_reply reading e after TooLong le lt other h = rw h.2 (sym (read_long (readin
 one_reply reading e after SinkFailed le lt other h = absurd (other refl)
 
 -- a run without faults whose result is not that of a failing sink
-pub Runs-driven : {K A : Type 0} (x : A) (t : Answering) (p : Proto K A) (place : ℕ) (k l : K) (m n : ℕ) (c : List Exchange) (a : A) → Spilt x p → a ≢ x → AnsweredBy t place c → n ≤ m → m < 2 ^ 64 - 1 → Runs p k m c n l a → driven t p place k ≡ record { place = place + length c; kept = l; answer = a }
-unfolding Spilt Runs driven
-Runs-driven x t (Done y) place k l m n [] a spilt other h le lt r = let here : place ≡ place + 0 = omega arith in λ i. record { place = here i; kept = r.1 i; answer = r.2 i }
-Runs-driven x t (Done y) place k l m n (e ∷ c) a spilt other h le lt r = absurd r
-Runs-driven x t (Ask request reading next) place k l m n [] a spilt other h le lt r = absurd r
-Runs-driven x t (Ask request reading next) place k l m n (e ∷ c) a spilt other h le lt r =
+pub Runs-evaluation : {K A : Type 0} (x : A) (t : Answering) (p : Proto K A) (place : ℕ) (k l : K) (m n : ℕ) (c : List Exchange) (a : A) → EndsOnSinkFault x p → a ≢ x → AnsweredBy t place c → n ≤ m → m < 2 ^ 64 - 1 → Runs p k m c n l a → evaluation t p place k ≡ record { place = place + length c; kept = l; answer = a }
+unfolding EndsOnSinkFault Runs evaluation
+Runs-evaluation x t (Done y) place k l m n [] a spilt other h le lt r = let here : place ≡ place + 0 = omega arith in λ i. record { place = here i; kept = r.1 i; answer = r.2 i }
+Runs-evaluation x t (Done y) place k l m n (e ∷ c) a spilt other h le lt r = absurd r
+Runs-evaluation x t (Ask request reading next) place k l m n [] a spilt other h le lt r = absurd r
+Runs-evaluation x t (Ask request reading next) place k l m n (e ∷ c) a spilt other h le lt r =
     let count : r.0 ≤ n = Runs-count (next r.1) k l r.0 n c a r.3 in
     let first : m ≤ r.0 = r.2.count in
     let same : e.faults ≡ m = r.2.faults_is in
@@ -49,38 +49,38 @@ Runs-driven x t (Ask request reading next) place k l m n (e ∷ c) a spilt other
     let reply : r.1 ≡ reply_to reading (t.answer place request) =
     one_reply reading e r.0 r.1 (omega arith) (omega arith) sink r.2.reply_is ∙ ap (reply_to reading) (h.0 ∙ ap (t.answer place) r.2.request_is) in
     let here : suc place + length c ≡ place + length (e ∷ c) = omega arith in
-    ap (λ reply. driven t (next reply) (suc place) k) (sym reply) ∙ Runs-driven x t (next r.1) (suc place) k l r.0 n c a (spilt.1 r.1) other h.1 (omega arith) (omega arith) r.3 ∙ (λ i. record { place = here i; kept = l; answer = a })
-Runs-driven x t (Recall next) place k l m n c a spilt other h le lt r = Runs-driven x t (next k) place k l m n c a (spilt k) other h le lt r
-Runs-driven x t (Keep kept rest) place k l m n c a spilt other h le lt r = Runs-driven x t rest place kept l m n c a spilt other h le lt r
-Runs-driven x t (Consult next) place k l m n c a spilt other h le lt r = absurd spilt
+    ap (λ reply. evaluation t (next reply) (suc place) k) (sym reply) ∙ Runs-evaluation x t (next r.1) (suc place) k l r.0 n c a (spilt.1 r.1) other h.1 (omega arith) (omega arith) r.3 ∙ (λ i. record { place = here i; kept = l; answer = a })
+Runs-evaluation x t (Recall next) place k l m n c a spilt other h le lt r = Runs-evaluation x t (next k) place k l m n c a (spilt k) other h le lt r
+Runs-evaluation x t (Keep kept rest) place k l m n c a spilt other h le lt r = Runs-evaluation x t rest place kept l m n c a spilt other h le lt r
+Runs-evaluation x t (Consult next) place k l m n c a spilt other h le lt r = absurd spilt
 
 -- one part, and then what its result leads to
-pub driven-bind : {K A B : Type 0} (t : Answering) (p : Proto K A) (f : A → Proto K B) (place : ℕ) (k : K) → driven t (bind p f) place k ≡ driven t (f (driven t p place k).answer) (driven t p place k).place (driven t p place k).kept
-unfolding driven bind
-driven-bind t (Done a) f place k = refl
-driven-bind t (Ask request reading next) f place k = driven-bind t (next (reply_to reading (t.answer place request))) f (suc place) k
-driven-bind t (Recall next) f place k = driven-bind t (next k) f place k
-driven-bind t (Keep kept rest) f place k = driven-bind t rest f place kept
-driven-bind t (Consult next) f place k = driven-bind t (next None) f place k
+pub evaluation-bind : {K A B : Type 0} (t : Answering) (p : Proto K A) (f : A → Proto K B) (place : ℕ) (k : K) → evaluation t (bind p f) place k ≡ evaluation t (f (evaluation t p place k).answer) (evaluation t p place k).place (evaluation t p place k).kept
+unfolding evaluation bind
+evaluation-bind t (Done a) f place k = refl
+evaluation-bind t (Ask request reading next) f place k = evaluation-bind t (next (reply_to reading (t.answer place request))) f (suc place) k
+evaluation-bind t (Recall next) f place k = evaluation-bind t (next k) f place k
+evaluation-bind t (Keep kept rest) f place k = evaluation-bind t rest f place kept
+evaluation-bind t (Consult next) f place k = evaluation-bind t (next None) f place k
 
-pub Drives-done : {K A E : Type 0} {t : Answering} {place : ℕ} {k : K} {a : A} → Drives {E = E} t (Done (Ok a)) place place k k a
-unfolding driven
-Drives-done = record { drives = refl }
+pub Evaluates-done : {K A E : Type 0} {t : Answering} {place : ℕ} {k : K} {a : A} → Evaluates {E = E} t (Done (Ok a)) place place k k a
+unfolding evaluation
+Evaluates-done = record { drives = refl }
 
-pub Drives-next : {K A B E : Type 0} {t : Answering} {p : Proto K (Result A E)} (f : A → Proto K (Result B E)) {place mid after : ℕ} {k l j : K} {a : A} {b : B} → Drives t p place mid k l a → Drives t (f a) mid after l j b → Drives t (p >>= f) place after k j b
-Drives-next {t = t} {p = p} f {place = place} {k = k} first second = record { drives = driven-bind t p (unless_refused f) place k ∙ (rw first.drives second.drives) }
+pub Evaluates-next : {K A B E : Type 0} {t : Answering} {p : Proto K (Result A E)} (f : A → Proto K (Result B E)) {place mid after : ℕ} {k l j : K} {a : A} {b : B} → Evaluates t p place mid k l a → Evaluates t (f a) mid after l j b → Evaluates t (p >>= f) place after k j b
+Evaluates-next {t = t} {p = p} f {place = place} {k = k} first second = record { drives = evaluation-bind t p (unless_refused f) place k ∙ (rw first.drives second.drives) }
 
 -- a part whose error is inspected, if there is none
-pub Drives-caught : {K A B E F : Type 0} {t : Answering} {p : Proto K (Result A E)} (f : Result A E → Proto K (Result B F)) {place mid after : ℕ} {k l j : K} {a : A} {b : B} → Drives t p place mid k l a → Drives t (f (Ok a)) mid after l j b → Drives t (bind p f) place after k j b
-Drives-caught {t = t} {p = p} f {place = place} {k = k} first second = record { drives = driven-bind t p f place k ∙ (rw first.drives second.drives) }
+pub Evaluates-caught : {K A B E F : Type 0} {t : Answering} {p : Proto K (Result A E)} (f : Result A E → Proto K (Result B F)) {place mid after : ℕ} {k l j : K} {a : A} {b : B} → Evaluates t p place mid k l a → Evaluates t (f (Ok a)) mid after l j b → Evaluates t (bind p f) place after k j b
+Evaluates-caught {t = t} {p = p} f {place = place} {k = k} first second = record { drives = evaluation-bind t p f place k ∙ (rw first.drives second.drives) }
 
-pub Drives-recall : {K A E : Type 0} {t : Answering} (next : K → Proto K (Result A E)) {place after : ℕ} {k l : K} {a : A} → Drives t (next k) place after k l a → Drives t (Recall next) place after k l a
-unfolding driven
-Drives-recall next h = record { drives = h.drives }
+pub Evaluates-recall : {K A E : Type 0} {t : Answering} (next : K → Proto K (Result A E)) {place after : ℕ} {k l : K} {a : A} → Evaluates t (next k) place after k l a → Evaluates t (Recall next) place after k l a
+unfolding evaluation
+Evaluates-recall next h = record { drives = h.drives }
 
-pub Drives-keep : {K A E : Type 0} {t : Answering} (kept : K) (rest : Proto K (Result A E)) {place after : ℕ} {k l : K} {a : A} → Drives t rest place after kept l a → Drives t (Keep kept rest) place after k l a
-unfolding driven
-Drives-keep kept rest h = record { drives = h.drives }
+pub Evaluates-keep : {K A E : Type 0} {t : Answering} (kept : K) (rest : Proto K (Result A E)) {place after : ℕ} {k l : K} {a : A} → Evaluates t rest place after kept l a → Evaluates t (Keep kept rest) place after k l a
+unfolding evaluation
+Evaluates-keep kept rest h = record { drives = h.drives }
 
 -- the response is not a redirect, or no further redirect is followed
 abbrev pub Stands : ℕ → Request → Answer → Type 0
@@ -99,22 +99,22 @@ turn_stands {K} {A} request go next answer reading none = by_reading reading whe
   by_reading (Piped limit) = by_length (nat_lt limit (length answer.body))
 
 -- a request whose response is not a redirect that is followed
-pub Drives-follow : {K A E : Type 0} {t : Answering} (n : ℕ) (request : Request) (reading : AnswerHead → Reading) (next : Request → Reply → Proto K (Result A E)) (answer : Answer) {place after : ℕ} {k l : K} {a : A}
-    → t.answer place request ≡ Some answer → Stands n request answer → Drives t (next request (reply_of (reading (head_part answer)) answer)) (suc place) after k l a → Drives t (follow n request reading next) place after k l a
-unfolding driven follow turned
-Drives-follow {t = t} zero request reading next answer {place = place} {k = k} is stands h = record { drives = ap (λ o. driven t (next request (reply_to reading o)) (suc place) k) is ∙ h.drives }
-Drives-follow {t = t} (suc n) request reading next answer {place = place} {k = k} is none h = record {
-  drives = ap (λ o. driven t (turn request (λ r. follow n r reading next) (next request) (reply_to (turned request reading) o)) (suc place) k) is
-      ∙ ap (λ (o : Option Request). driven t (turn request (λ r. follow n r reading next) (next request) (reply_of (unread_if o (reading (head_part answer))) answer)) (suc place) k) none
-      ∙ ap (λ p. driven t p (suc place) k) (turn_stands request (λ r. follow n r reading next) (next request) answer (reading (head_part answer)) none) ∙ h.drives;
+pub Evaluates-follow : {K A E : Type 0} {t : Answering} (n : ℕ) (request : Request) (reading : AnswerHead → Reading) (next : Request → Reply → Proto K (Result A E)) (answer : Answer) {place after : ℕ} {k l : K} {a : A}
+    → t.answer place request ≡ Some answer → Stands n request answer → Evaluates t (next request (reply_of (reading (head_part answer)) answer)) (suc place) after k l a → Evaluates t (follow n request reading next) place after k l a
+unfolding evaluation follow turned
+Evaluates-follow {t = t} zero request reading next answer {place = place} {k = k} is stands h = record { drives = ap (λ o. evaluation t (next request (reply_to reading o)) (suc place) k) is ∙ h.drives }
+Evaluates-follow {t = t} (suc n) request reading next answer {place = place} {k = k} is none h = record {
+  drives = ap (λ o. evaluation t (turn request (λ r. follow n r reading next) (next request) (reply_to (turned request reading) o)) (suc place) k) is
+      ∙ ap (λ (o : Option Request). evaluation t (turn request (λ r. follow n r reading next) (next request) (reply_of (unread_if o (reading (head_part answer))) answer)) (suc place) k) none
+      ∙ ap (λ p. evaluation t p (suc place) k) (turn_stands request (λ r. follow n r reading next) (next request) answer (reading (head_part answer)) none) ∙ h.drives;
 }
 
 -- a request whose response redirects to another
-pub Drives-redirected : {K A E : Type 0} {t : Answering} (n : ℕ) (request : Request) (reading : AnswerHead → Reading) (next : Request → Reply → Proto K (Result A E)) (answer : Answer) (to : Request) {place after : ℕ} {k l : K} {a : A}
-    → t.answer place request ≡ Some answer → redirected request (head_part answer) ≡ Some to → Drives t (follow n to reading next) (suc place) after k l a → Drives t (follow (suc n) request reading next) place after k l a
-unfolding driven follow turned
-Drives-redirected {t = t} n request reading next answer to {place = place} {k = k} is leads h = record {
-  drives = ap (λ o. driven t (turn request (λ r. follow n r reading next) (next request) (reply_to (turned request reading) o)) (suc place) k) is
-      ∙ ap (λ (o : Option Request). driven t (turn request (λ r. follow n r reading next) (next request) (reply_of (unread_if o (reading (head_part answer))) answer)) (suc place) k) leads
-      ∙ ap (λ (o : Option Request). driven t (go_if o (λ r. follow n r reading next) (next request (Headed (head_part answer)))) (suc place) k) leads ∙ h.drives;
+pub Evaluates-redirected : {K A E : Type 0} {t : Answering} (n : ℕ) (request : Request) (reading : AnswerHead → Reading) (next : Request → Reply → Proto K (Result A E)) (answer : Answer) (to : Request) {place after : ℕ} {k l : K} {a : A}
+    → t.answer place request ≡ Some answer → redirected request (head_part answer) ≡ Some to → Evaluates t (follow n to reading next) (suc place) after k l a → Evaluates t (follow (suc n) request reading next) place after k l a
+unfolding evaluation follow turned
+Evaluates-redirected {t = t} n request reading next answer to {place = place} {k = k} is leads h = record {
+  drives = ap (λ o. evaluation t (turn request (λ r. follow n r reading next) (next request) (reply_to (turned request reading) o)) (suc place) k) is
+      ∙ ap (λ (o : Option Request). evaluation t (turn request (λ r. follow n r reading next) (next request) (reply_of (unread_if o (reading (head_part answer))) answer)) (suc place) k) leads
+      ∙ ap (λ (o : Option Request). evaluation t (go_if o (λ r. follow n r reading next) (next request (Headed (head_part answer)))) (suc place) k) leads ∙ h.drives;
 }

@@ -1,5 +1,5 @@
 use Rattle.std.specs.Prelude.{◌≡◌, ◌≤◌, ◌⊎◌, ℕ, suc, zero, List, [], ◌∷◌, Option, Some, None}
-use Rattle.json_values.specs.Counts.{Rose}
+use Rattle.json_values.specs.Counts.{Increased}
 use Rattle.oci_transport.specs.Link.{Link, Extends, Answers, AddsUnanswered, AddsAtMost}
 use Rattle.oci_transport.specs.Redirects.{redirected}
 use Rattle.oci_transport.specs.declared.message.Request.{Request}
@@ -70,7 +70,7 @@ pub record Misses (n : ℕ) (request : Request) (old new : Link) : Type 0 where
   pub mid : Link
   pub follows : Follows n request left last old mid
   pub added : AddsUnanswered last mid new
-  pub rose : Rose mid.faults new.faults
+  pub rose : Increased mid.faults new.faults
   pub count : mid.faults ≤ new.faults
 
 -- memory ran out

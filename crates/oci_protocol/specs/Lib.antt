@@ -1,10 +1,10 @@
-pub mod Drive
+pub mod Evaluation
 pub mod Ends
 pub mod Follow
 pub mod Lift
-pub mod Poured
+pub mod StreamedBody
 pub mod Proto
 pub mod Runs
 pub mod Safe
-pub mod Shows
+pub mod EveryRun
 pub mod Trails

@@ -1,6 +1,6 @@
 use Rattle.std.specs.Prelude.{◌≡◌, ◌<◌, ◌≤◌, ◌⊎◌, ℕ, suc, Bool, List, [], ◌∷◌, Option, Some, Result, Ok, Err, MatchBool}
 use Rattle.std.specs.Prelude.{length}
-use Rattle.json_values.specs.Counts.{Rose}
+use Rattle.json_values.specs.Counts.{Increased}
 use Rattle.oci_transport.specs.Link.{Link, Answering, Extends, answer_of}
 use Rattle.oci_transport.specs.declared.message.Request.{Request}
 use Rattle.oci_transport.specs.declared.message.Answer.{Answer}
@@ -18,7 +18,7 @@ IsReply reading e after (Headed head) = (body : List ℕ) × (e.answer ≡ Some 
     × (reading head ≡ Unread)
 IsReply reading e after (Answered answer) = (limit : ℕ) × (e.answer ≡ Some answer)
     × (limit_of (reading (head_part answer)) ≡ Some limit) × (length answer.body ≤ limit)
-IsReply reading e after Failed = Rose e.faults after
+IsReply reading e after Failed = Increased e.faults after
 IsReply reading e after TooLong = (answer : Answer) × (limit : ℕ) × (e.answer ≡ Some answer)
     × (limit_of (reading (head_part answer)) ≡ Some limit) × (limit < length answer.body)
 IsReply reading e after SinkFailed = (answer : Answer) × (limit : ℕ) × (e.answer ≡ Some answer)
@@ -35,14 +35,15 @@ pub record Replies (request : Request)
 -- a body that is known to be truncated was read beyond that index only after its fault: the fault count increased
 abbrev pub IsUnbroken : Answering → ℕ → (AnswerHead → Reading) → Exchange → ℕ → Reply → Type 0
 IsUnbroken t place reading e after (Answered answer) = (bytes : ℕ) → t.breaks place ≡ Some bytes
-    → Rose e.faults after
+    → Increased e.faults after
 IsUnbroken t place reading e after TooLong = (answer : Answer) (limit bytes : ℕ) → e.answer ≡ Some answer
     → limit_of (reading (head_part answer)) ≡ Some limit → t.breaks place ≡ Some bytes → bytes ≤ limit
-    → Rose e.faults after
+    → Increased e.faults after
 IsUnbroken t place reading e after reply = Unit {0}
 
 -- one exchange was added, if exchanges are exposed, and this is its reply
-pub record Hears (request : Request) (reading : AnswerHead → Reading) (old new : Link) (reply : Reply) : Type 0 where
+pub record AddsExchange (request : Request) (reading : AnswerHead → Reading) (old new : Link)
+    (reply : Reply) : Type 0 where
   pub exchange : Exchange
   pub told : Extends old new (exchange ∷ [])
   pub replies : Replies request reading old.faults exchange new.faults reply
@@ -82,15 +83,15 @@ RunsBy t place (Consult next) k m c n l a = (said : Option (List ℕ)) × RunsBy
 
 -- The exchanges c are a prefix of a run, cut off anywhere, also before the body of the last response was read. The
 -- client state was l then.
-unfoldable pub Stops : {K A : Type 0} → Proto K A → K → ℕ → List Exchange → K → Type 0
-Stops (Done x) k m [] l = k ≡ l
-Stops (Done x) k m (e ∷ c) l = ⊥
-Stops (Ask request reading next) k m [] l = k ≡ l
-Stops (Ask request reading next) k m (e ∷ c) l = ((e.request ≡ request) × (e.faults ≡ m) × (c ≡ []) × (k ≡ l))
-    ⊎ ((after : ℕ) × (reply : Reply) × Replies request reading m e after reply × Stops (next reply) k after c l)
-Stops (Recall next) k m c l = Stops (next k) k m c l
-Stops (Keep kept rest) k m c l = ((c ≡ []) × (k ≡ l)) ⊎ Stops rest kept m c l
-Stops (Consult next) k m c l = (said : Option (List ℕ)) × Stops (next said) k m c l
+unfoldable pub RunPrefix : {K A : Type 0} → Proto K A → K → ℕ → List Exchange → K → Type 0
+RunPrefix (Done x) k m [] l = k ≡ l
+RunPrefix (Done x) k m (e ∷ c) l = ⊥
+RunPrefix (Ask request reading next) k m [] l = k ≡ l
+RunPrefix (Ask request reading next) k m (e ∷ c) l = ((e.request ≡ request) × (e.faults ≡ m) × (c ≡ []) × (k ≡ l))
+    ⊎ ((after : ℕ) × (reply : Reply) × Replies request reading m e after reply × RunPrefix (next reply) k after c l)
+RunPrefix (Recall next) k m c l = RunPrefix (next k) k m c l
+RunPrefix (Keep kept rest) k m c l = ((c ≡ []) × (k ≡ l)) ⊎ RunPrefix rest kept m c l
+RunPrefix (Consult next) k m c l = (said : Option (List ℕ)) × RunPrefix (next said) k m c l
 
 -- The protocol had a complete run over the transport, from old to new. The conversation is the exposed one, if
 -- exchanges are exposed.
@@ -102,16 +103,16 @@ pub record Performs {K A : Type 0} (p : Proto K A) (old new : Link) (k l : K) (a
       → RunsBy t (length before) p k old.faults conversation new.faults l a
 
 -- a prefix of it had
-pub record Breaks {K A : Type 0} (p : Proto K A) (old new : Link) (k l : K) : Type 0 where
+pub record PerformsPrefix {K A : Type 0} (p : Proto K A) (old new : Link) (k l : K) : Type 0 where
   pub conversation : List Exchange
   pub told : Extends old new conversation
-  pub stops : Stops p k old.faults conversation l
+  pub stops : RunPrefix p k old.faults conversation l
   pub count : old.faults ≤ new.faults
 
 -- a result of the protocol, or an out-of-memory error that cut it off
 abbrev pub Outcome : {K A E : Type 0} → (E → Bool) → Proto K (Result A E) → Link → Link → K → K → Result A E → Type 0
 Outcome of_memory p old new k l (Ok a) = Performs p old new k l (Ok a)
-Outcome of_memory p old new k l (Err e) = MatchBool (of_memory e) (Breaks p old new k l)
+Outcome of_memory p old new k l (Err e) = MatchBool (of_memory e) (PerformsPrefix p old new k l)
     (Performs p old new k l (Err e))
 
 -- The call performed this protocol and returns its result. An out-of-memory error may have cut it off anywhere.

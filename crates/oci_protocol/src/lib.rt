@@ -6,4 +6,4 @@ mod piped;
 mod sender;
 
 pub use followed::{Reached, reach};
-pub use piped::{PourError, pour};
+pub use piped::{StreamBodyError, stream_body};

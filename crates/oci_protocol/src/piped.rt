@@ -1,8 +1,8 @@
 // Reads the body of a response, piece by piece, into a sink.
 ghost use Rattle.std.specs.Prelude.{◌≡◌, ◌≤◌, OnOk, OnErr, IsErrOf};
-ghost use Rattle.json_values.specs.Counts.{Rose};
+ghost use Rattle.json_values.specs.Counts.{Increased};
 ghost use Rattle.oci_transport.specs.Link.{Steady, TakesPast};
-ghost use Rattle.oci_protocol.specs.Poured.{Pours, PoursFront};
+ghost use Rattle.oci_protocol.specs.StreamedBody.{StreamsBody, StreamsPrefix};
 
 use json_values::{Copied, Sink, SinkError, put_all};
 use oci_digests::Digesters;
@@ -12,7 +12,7 @@ use thiserror::Error;
 
 /// Why a body did not reach a sink whole.
 #[derive(Clone, Copy, Debug, PartialEq, Eq, Error)]
-pub enum PourError {
+pub enum StreamBodyError {
     /// The transport failed, and its fault count increased.
     #[error("the connection failed while reading a body: send the request again")]
     TransportFault,
@@ -27,40 +27,41 @@ pub enum PourError {
     WantOfMemory,
 }
 
-impl Copied for PourError {
-    fn copy(&self, _alloc: Global) -> Result<PourError, AllocError> {
+impl Copied for StreamBodyError {
+    fn copy(&self, _alloc: Global) -> Result<StreamBodyError, AllocError> {
         Ok(*self)
     }
 }
 
 /// Takes the body of the last response, hashes it and writes it to the sink, if it has at most `limit` bytes. Whatever
 /// it returns, the sink holds a prefix of the body.
-pub fn pour<T: Transport, S: Sink>(
+pub fn stream_body<T: Transport, S: Sink>(
     alloc: Global,
     transport: &mut T,
     sink: &mut S,
     limit: u64,
     digesters: &mut Digesters,
-) -> Result<(), PourError>
+) -> Result<(), StreamBodyError>
     ensures told { (T.state transport.new).told ≡ (T.state transport.old).told }
     ensures steady { Steady (T.state transport.old) (T.state transport.new) }
     ensures count { (T.state transport.old).faults ≤ (T.state transport.new).faults }
     ensures sink_count { (S.state sink.old).faults ≤ (S.state sink.new).faults }
-    ensures poured { OnOk result (Pours limit digesters.old digesters.new
+    ensures poured { OnOk result (StreamsBody limit digesters.old digesters.new
         (T.state transport.old) (T.state transport.new) (S.state sink.old) (S.state sink.new)) }
-    ensures front { PoursFront (T.state transport.old) (S.state sink.old) (S.state sink.new) }
-    ensures long { IsErrOf result PourError.BodyTooLong
+    ensures prefix { StreamsPrefix (T.state transport.old) (S.state sink.old) (S.state sink.new) }
+    ensures long { IsErrOf result StreamBodyError.BodyTooLong
         → TakesPast limit (T.state transport.old) (T.state transport.new) }
-    ensures fault { IsErrOf result PourError.TransportFault
-        → Rose (T.state transport.old).faults (T.state transport.new).faults }
-    ensures sink_fault { IsErrOf result PourError.SinkFault → Rose (S.state sink.old).faults (S.state sink.new).faults }
+    ensures fault { IsErrOf result StreamBodyError.TransportFault
+        → Increased (T.state transport.old).faults (T.state transport.new).faults }
+    ensures sink_fault { IsErrOf result StreamBodyError.SinkFault
+        → Increased (S.state sink.old).faults (S.state sink.new).faults }
 {
     let mut taken: u64 = 0;
     loop {
         let piece = match transport.piece(alloc) {
             Ok(piece) => piece,
-            Err(LinkError::Failed) => return Err(PourError::TransportFault),
-            Err(LinkError::WantOfMemory) => return Err(PourError::WantOfMemory),
+            Err(LinkError::Failed) => return Err(StreamBodyError::TransportFault),
+            Err(LinkError::WantOfMemory) => return Err(StreamBodyError::WantOfMemory),
         };
         let bytes = piece.as_slice();
         let more = bytes.len() as u64;
@@ -68,13 +69,13 @@ pub fn pour<T: Transport, S: Sink>(
             return Ok(());
         }
         if more > limit - taken {
-            return Err(PourError::BodyTooLong);
+            return Err(StreamBodyError::BodyTooLong);
         }
         digesters.update(bytes);
         match put_all(sink, bytes) {
             Ok(()) => {}
-            Err(SinkError::Failed) => return Err(PourError::SinkFault),
-            Err(SinkError::WantOfMemory) => return Err(PourError::WantOfMemory),
+            Err(SinkError::Failed) => return Err(StreamBodyError::SinkFault),
+            Err(SinkError::WantOfMemory) => return Err(StreamBodyError::WantOfMemory),
         }
         taken += more;
     }

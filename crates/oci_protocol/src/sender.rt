@@ -1,6 +1,6 @@
 // A transport from which no body can be read.
 ghost use Rattle.std.specs.Prelude.{◌≡◌, ◌≤◌, IfOk, IsErrOf};
-ghost use Rattle.json_values.specs.Counts.{Rose};
+ghost use Rattle.json_values.specs.Counts.{Increased};
 ghost use Rattle.oci_transport.specs.Link.{Link, Answers, AddsUnanswered, AddsAtMost};
 
 use oci_transport::{AnswerHead, LinkError, Request, Transport};
@@ -16,7 +16,7 @@ pub trait Sender {
         ensures answered { IfOk result (λ head. Answers request.now head (state self.old) (state self.new)) }
         ensures unanswered { IsErrOf result LinkError.Failed
             → AddsUnanswered request.now (state self.old) (state self.new) }
-        ensures fault { IsErrOf result LinkError.Failed → Rose (state self.old).faults (state self.new).faults }
+        ensures fault { IsErrOf result LinkError.Failed → Increased (state self.old).faults (state self.new).faults }
         ensures memory { IsErrOf result LinkError.WantOfMemory
             → AddsAtMost request.now (state self.old) (state self.new) };
 }

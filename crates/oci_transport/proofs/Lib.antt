@@ -1,5 +1,5 @@
 pub mod Fields
 pub mod ScriptAnswers
 pub mod ScriptBreaks
-pub mod ScriptCalm
+pub mod ScriptFaults
 pub mod TakenBytes

@@ -5,7 +5,7 @@ use Rattle.std.proofs.Common.{length-append, get_or}
 use Rattle.std.proofs.lemmas.List.{at_drop_more}
 use Rattle.std.specs.Option.{option_eq}
 use Rattle.std.proofs.lemmas.Bool.Decides.{nat_tests}
-use Rattle.json_values.specs.Counts.{raised, Rose}
+use Rattle.json_values.specs.Counts.{incremented, Increased}
 use Rattle.oci_transport.specs.Link.{Link, Answering, BreaksOff, EndsUnbroken, StaysUnbroken, Takes}
 use Rattle.oci_transport.specs.Pieces.{NoneEmpty, joined}
 use Rattle.oci_transport.proofs.ScriptAnswers.{body_of, length_next}
@@ -48,18 +48,18 @@ count_any : (e : Exchange) (c : List Exchange) (m n : ℕ) → last_count (e ∷
 count_any e [] m n = refl
 count_any e (x ∷ c) m n = count_any x c m n
 
-met_fault : (stopped : Bool) (last : Option ℕ) (given sent count : ℕ) → option_eq nat_eq (stop_by stopped last) (Some given) ≡ true → met last given stopped sent count ≡ true → met last given true sent (raised count) ≡ true
+met_fault : (stopped : Bool) (last : Option ℕ) (given sent count : ℕ) → option_eq nat_eq (stop_by stopped last) (Some given) ≡ true → met last given stopped sent count ≡ true → met last given true sent (incremented count) ≡ true
 met_fault true last given sent count same h = absurd (cc same)
 met_fault false last given sent count same h =
     let le : sent ≤ count = le_of sent count (parts (nat_le sent count) (not_past last given) h).0 in
-    le_true (raised sent) (raised count) (omega (arith, le))
+    le_true (incremented sent) (incremented count) (omega (arith, le))
 
 -- a fault occurred
-pub met_stop : (items : List Recorded) (told : List Exchange) (given : ℕ) (stopped : Bool) (count : ℕ) (stop : Option ℕ) → stop ≡ (if stopped then None else last_stop items (length told)) → option_eq nat_eq stop (Some given) ≡ true → HasMet items told given stopped count → HasMet items told given true (raised count)
+pub met_stop : (items : List Recorded) (told : List Exchange) (given : ℕ) (stopped : Bool) (count : ℕ) (stop : Option ℕ) → stop ≡ (if stopped then None else last_stop items (length told)) → option_eq nat_eq stop (Some given) ≡ true → HasMet items told given stopped count → HasMet items told given true (incremented count)
 met_stop items [] given true count stop is same h = absurd (cc (is, same))
 met_stop items [] given false count stop is same h = absurd (cc (is, same))
 met_stop items (e ∷ c) given stopped count stop is same h =
-    met_fault stopped (last_stop items (length (e ∷ c))) given (last_count (e ∷ c) (raised count)) count (rw is at same) (ap (λ n. met (last_stop items (length (e ∷ c))) given stopped n count) (count_any e c (raised count) count) ∙ h)
+    met_fault stopped (last_stop items (length (e ∷ c))) given (last_count (e ∷ c) (incremented count)) count (rw is at same) (ap (λ n. met (last_stop items (length (e ∷ c))) given stopped n count) (count_any e c (incremented count) count) ∙ h)
 
 past_more : (last : Option ℕ) (given : ℕ) → option_eq nat_eq last (Some given) ≡ false → not_past last given ≡ true → not_past last (given + 1) ≡ true
 past_more None given other h = refl
@@ -89,10 +89,10 @@ stop_bound (Some r) n h = by r.fails h where
   by true h = absurd (cc h)
   by false h = within_bound r.fails_before (length r.pieces) n h
 
-rose_of : (o : Option Recorded) (stopped : Bool) (given sent count : ℕ) → option_eq nat_eq (stop_by stopped (fails_before_of o)) (Some given) ≡ false → length (pieces_of o) ≤ given → is_some (fails_before_of o) ≡ true → met (fails_before_of o) given stopped sent count ≡ true → Rose sent count
-rose_of o true given sent count other all breaks h = le_of (raised sent) count h
+rose_of : (o : Option Recorded) (stopped : Bool) (given sent count : ℕ) → option_eq nat_eq (stop_by stopped (fails_before_of o)) (Some given) ≡ false → length (pieces_of o) ≤ given → is_some (fails_before_of o) ≡ true → met (fails_before_of o) given stopped sent count ≡ true → Increased sent count
+rose_of o true given sent count other all breaks h = le_of (incremented sent) count h
 rose_of o false given sent count other all breaks h = by (fails_before_of o) refl other breaks (parts (nat_le sent count) (not_past (fails_before_of o) given) h).1 where
-  by : (last : Option ℕ) → fails_before_of o ≡ last → option_eq nat_eq last (Some given) ≡ false → is_some last ≡ true → not_past last given ≡ true → Rose sent count
+  by : (last : Option ℕ) → fails_before_of o ≡ last → option_eq nat_eq last (Some given) ≡ false → is_some last ≡ true → not_past last given ≡ true → Increased sent count
   by None is other breaks past = absurd (cc breaks)
   by (Some n) is other breaks past =
       let bound : n ≤ length (pieces_of o) = stop_bound o n is in
@@ -148,7 +148,7 @@ pub ends_unbroken : (items : List Recorded) (told : List Exchange) (given : ℕ)
     → length (last_pieces items (length told)) ≤ given → (old new : Link) → old.answers ≡ Some (answering items) → old.told ≡ Some told → new.faults ≡ count → EndsUnbroken old new
 ends_unbroken items told given stopped count stop is other h all old new answers telling faults e answer bytes b =
     let l = last_of items told count old answers telling e answer bytes b in
-    let rose : Rose (last_count told count) count = rose_of (slice_get items l.place) stopped given (last_count told count) count
+    let rose : Increased (last_count told count) count = rose_of (slice_get items l.place) stopped given (last_count told count) count
     (ap (λ n. option_eq nat_eq (stop_by stopped (last_stop items n)) (Some given)) (sym l.sent_is) ∙ rw is at other)
     (rw l.sent_is at all)
     (break_some (pieces_of (slice_get items l.place)) (fails_before_of (slice_get items l.place)) bytes l.break_is)
@@ -168,8 +168,8 @@ bytes_more (suc m) (suc n) [] h = omega arith
 bytes_more (suc m) (suc n) (p ∷ ps) h = omega (arith, bytes_more m n ps (omega (arith, h)), length-append p (joined (take m ps)), length-append p (joined (take n ps)))
 
 -- the bytes after the truncation only if the fault occurred
-rose_past : (pieces : List (List ℕ)) (stop : Option ℕ) (stopped : Bool) (given sent count bytes : ℕ) → option_map (bytes_within pieces) stop ≡ Some bytes → bytes + length (joined (drop given pieces)) < length (joined pieces) → met stop given stopped sent count ≡ true → Rose sent count
-rose_past pieces stop true given sent count bytes is past h = le_of (raised sent) count h
+rose_past : (pieces : List (List ℕ)) (stop : Option ℕ) (stopped : Bool) (given sent count bytes : ℕ) → option_map (bytes_within pieces) stop ≡ Some bytes → bytes + length (joined (drop given pieces)) < length (joined pieces) → met stop given stopped sent count ≡ true → Increased sent count
+rose_past pieces stop true given sent count bytes is past h = le_of (incremented sent) count h
 rose_past pieces None false given sent count bytes is past h = absurd (cc is)
 rose_past pieces (Some n) false given sent count bytes is past h =
     let small : given ≤ n = le_of given n (parts (nat_le sent count) (nat_le given n) h).1 in
@@ -181,7 +181,7 @@ stays_unbroken items told given stopped count h old new answers telling faults r
     let l = last_of items told count old answers telling e answer bytes b in
     let left : past.0 ≡ joined (drop given (pieces_of (slice_get items l.place))) = some_is _ _ (sym past.1 ∙ rest) ∙ ap (λ n. joined (drop given (last_pieces items n))) l.sent_is in
     let behind : bytes + length (joined (drop given (pieces_of (slice_get items l.place)))) < length (joined (pieces_of (slice_get items l.place))) = omega (arith, ap length left, ap length l.body_is, past.2) in
-    let rose : Rose (last_count told count) count = rose_past (pieces_of (slice_get items l.place)) (fails_before_of (slice_get items l.place)) stopped given (last_count told count) count bytes l.break_is behind
+    let rose : Increased (last_count told count) count = rose_past (pieces_of (slice_get items l.place)) (fails_before_of (slice_get items l.place)) stopped given (last_count told count) count bytes l.break_is behind
     (ap (λ n. met (last_stop items n) given stopped (last_count told count) count) (sym l.sent_is) ∙ h) in
     rw (← l.count_is, faults) rose
 

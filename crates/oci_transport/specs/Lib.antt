@@ -1,4 +1,4 @@
-pub mod Calm
+pub mod FaultsOnlyWhere
 pub mod HeaderNames
 pub mod Headers
 pub mod Link

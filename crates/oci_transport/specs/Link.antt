@@ -1,5 +1,5 @@
 -- What a contract sees of a transport, and what a step of it may change.
-use Rattle.json_values.specs.Counts.{Rose}
+use Rattle.json_values.specs.Counts.{Increased}
 use Rattle.std.specs.Prelude.{◌≡◌, ℕ, suc, ◌≤◌, ◌<◌, ◌+◌, Bool, false, List, [], ◌∷◌, ◌++◌, length, Option, Some, None}
 use Rattle.oci_transport.specs.declared.message.Request.{Request}
 use Rattle.oci_transport.specs.declared.message.Answer.{Answer}
@@ -98,12 +98,12 @@ IsPast body bytes link = (left : List ℕ) × (link.rest ≡ Some left) × (byte
 -- fault count increased since the request was sent
 abbrev pub EndsUnbroken : Link → Link → Type 0
 EndsUnbroken old new = (e : Exchange) (answer : Answer) (bytes : ℕ) → BreaksOff e answer bytes old
-    → Rose e.faults new.faults
+    → Increased e.faults new.faults
 
 -- the same if bytes after the truncation are read
 abbrev pub StaysUnbroken : Link → Link → Type 0
 StaysUnbroken old new = (e : Exchange) (answer : Answer) (bytes : ℕ) → BreaksOff e answer bytes old
-    → IsPast answer.body bytes new → Rose e.faults new.faults
+    → IsPast answer.body bytes new → Increased e.faults new.faults
 
 -- the piece is a prefix of the rest, and an empty one means that nothing was left, and ends
 -- the body

@@ -5,8 +5,8 @@ use Rattle.oci_transport.specs.declared.message.Answer.{Answer}
 use Rattle.oci_transport.specs.Link.{Answering}
 use Rattle.oci_transport.specs.Pieces.{joined}
 use Rattle.std.specs.Prelude.{zero, suc, Bool, true, false, ◌||◌, ◌&&◌, nat_le, is_some, IsTrue, [], ◌∷◌}
-use Rattle.json_values.specs.Counts.{raised}
-use Rattle.oci_transport.specs.Calm.{calm}
+use Rattle.json_values.specs.Counts.{incremented}
+use Rattle.oci_transport.specs.FaultsOnlyWhere.{faults_only_where}
 use Rattle.oci_transport.specs.declared.message.Exchange.{Exchange}
 
 -- a record as a complete answer
@@ -55,8 +55,8 @@ answering items = record {
 }
 
 -- these exchanges have the recorded answers, and the fault count after them increased only if a record may fail
-abbrev pub IsCalm : List Recorded → List Exchange → ℕ → Type 0
-IsCalm items told count = IsTrue (calm (answering items).fails 0 told count)
+abbrev pub FaultsOnlyWhereRecorded : List Recorded → List Exchange → ℕ → Type 0
+FaultsOnlyWhereRecorded items told count = IsTrue (faults_only_where (answering items).fails 0 told count)
 
 -- the pieces of the last answer, given the number of requests sent
 abbrev pub last_pieces : List Recorded → ℕ → List (List ℕ)
@@ -81,7 +81,7 @@ not_past (Some n) given = nat_le given n
 
 -- since the last request was sent, at this fault count, a fault occurred, or no piece after one was returned
 abbrev pub met : Option ℕ → ℕ → Bool → ℕ → ℕ → Bool
-met stop given true sent count = nat_le (raised sent) count
+met stop given true sent count = nat_le (incremented sent) count
 met stop given false sent count = nat_le sent count && not_past stop given
 
 -- the same for the last of these exchanges, of which `given` pieces were returned

@@ -1,5 +1,5 @@
 ghost use Rattle.std.specs.Prelude.{◌≡◌, ◌≤◌, length, IfOk, OnOk, IsErrOf};
-ghost use Rattle.json_values.specs.Counts.{Rose};
+ghost use Rattle.json_values.specs.Counts.{Increased};
 ghost use Rattle.oci_transport.specs.Link.{Steady, EndsRest, EndsUnbroken, TakesPast};
 ghost use Rattle.oci_transport.specs.declared.body.BodyError.TheVariants.{WantOfMemory as out_of_memory};
 
@@ -53,7 +53,7 @@ pub fn read_body<T: Transport>(
     ensures long { IsErrOf result BodyError.BodyTooLong
         → TakesPast limit (T.state transport.old) (T.state transport.new) }
     ensures fault { IsErrOf result BodyError.TransportFault
-        → Rose (T.state transport.old).faults (T.state transport.new).faults }
+        → Increased (T.state transport.old).faults (T.state transport.new).faults }
 {
     let mut body = Blob::empty(alloc);
     loop {

@@ -1,7 +1,7 @@
 // A transport of recorded answers.
 ghost use Rattle.std.specs.Prelude.{◌≡◌, IsTrue, ℕ, ◌+◌, ◌<◌, ◌≤◌, [], length, slice_get, All, IfOk, OnOk, OnErr};
 ghost use Rattle.std.specs.Prelude.{IsErrOf, Some, None};
-ghost use Rattle.oci_transport.specs.Recorded.{IsCalm, HasMet};
+ghost use Rattle.oci_transport.specs.Recorded.{FaultsOnlyWhereRecorded, HasMet};
 ghost use Rattle.oci_transport.specs.Pieces.{NoneEmpty, joined};
 ghost use Rattle.oci_transport.specs.Recorded.{answering, recorded_answer, last_pieces, last_stop, stop_within};
 
@@ -19,7 +19,7 @@ pub struct Script {
     given: usize,
     stopped: bool,
     faults: u64,
-    ghost calm: { IsCalm answers told faults },
+    ghost faults_recorded: { FaultsOnlyWhereRecorded answers told faults },
     ghost met: { HasMet answers told given stopped faults },
 }
 
@@ -55,7 +55,7 @@ impl Script {
     /// Returns all exchanges so far.
     pub fn conversation(&self) -> &Conversation
         ensures told { Some result.now ≡ (state_of self.now).told }
-        ensures calm { IsCalm (answers_of self.now) result.now (state_of self.now).faults }
+        ensures faults_recorded { FaultsOnlyWhereRecorded (answers_of self.now) result.now (state_of self.now).faults }
     {
         &self.told
     }
@@ -79,7 +79,7 @@ impl Copied for Script {
 
 impl Transport for Script {
     ghost use Rattle.std.specs.Prelude.{◌⊎◌};
-    ghost use Rattle.json_values.specs.Counts.{Rose, raised};
+    ghost use Rattle.json_values.specs.Counts.{Increased, incremented};
     ghost use Rattle.oci_transport.specs.Link.{Answers, AddsUnanswered, AddsAtMost, LeavesRest, Takes, Steady};
     ghost use Rattle.oci_transport.specs.Script.{state_of, answers_of, given_of, stop_of};
     ghost use Rattle.oci_transport.specs.Script.{next_answer, next_stop, StopsAt};
@@ -95,12 +95,12 @@ impl Transport for Script {
         ensures nothing { IsErrOf result LinkError.Failed
             → LeavesRest [] (state_of self.old) (state_of self.new) }
         ensures fails { IsErrOf result LinkError.Failed → next_answer self.old ≡ None }
-        ensures serves { OnOk result (next_answer self.old ≡ None → ⊥) }
+        ensures succeeds { OnOk result (next_answer self.old ≡ None → ⊥) }
+        ensures counts_one { IsErrOf result LinkError.Failed
+            → (state_of self.new).faults ≡ incremented (state_of self.old).faults }
         ensures fault { IsErrOf result LinkError.Failed
-            → (state_of self.new).faults ≡ raised (state_of self.old).faults }
-        ensures rose { IsErrOf result LinkError.Failed
-            → Rose (state_of self.old).faults (state_of self.new).faults }
-        ensures quiet { OnOk result ((state_of self.new).faults ≡ (state_of self.old).faults) }
+            → Increased (state_of self.old).faults (state_of self.new).faults }
+        ensures no_fault { OnOk result ((state_of self.new).faults ≡ (state_of self.old).faults) }
         ensures memory { IsErrOf result LinkError.WantOfMemory → self.new ≡ self.old }
         ensures answers { answers_of self.new ≡ answers_of self.old }
         ensures given { OnOk result (given_of self.new ≡ 0) }
@@ -144,15 +144,15 @@ impl Transport for Script {
         ensures steady { Steady (state_of self.old) (state_of self.new) }
         ensures count { (state_of self.old).faults ≤ (state_of self.new).faults }
         ensures taken { IfOk result (λ piece. Takes piece (state_of self.old) (state_of self.new)) }
+        ensures counts_one { IsErrOf result LinkError.Failed
+            → (state_of self.new).faults ≡ incremented (state_of self.old).faults }
         ensures fault { IsErrOf result LinkError.Failed
-            → (state_of self.new).faults ≡ raised (state_of self.old).faults }
-        ensures rose { IsErrOf result LinkError.Failed
-            → Rose (state_of self.old).faults (state_of self.new).faults }
-        ensures quiet { OnOk result ((state_of self.new).faults ≡ (state_of self.old).faults) }
+            → Increased (state_of self.old).faults (state_of self.new).faults }
+        ensures no_fault { OnOk result ((state_of self.new).faults ≡ (state_of self.old).faults) }
         ensures memory { IsErrOf result LinkError.WantOfMemory → self.new ≡ self.old }
         ensures answers { answers_of self.new ≡ answers_of self.old }
         ensures stops { IsErrOf result LinkError.Failed → StopsAt self.old self.new }
-        ensures serves { OnOk result
+        ensures succeeds { OnOk result
             ((stop_of self.old ≡ Some (given_of self.old) → ⊥) × (stop_of self.new ≡ stop_of self.old)) }
         ensures given { IfOk result (λ piece.
             0 < length piece → given_of self.new ≡ given_of self.old + 1) }

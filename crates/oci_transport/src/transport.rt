@@ -1,6 +1,6 @@
 // Carries requests to a registry, and returns its answers.
 ghost use Rattle.std.specs.Prelude.{◌≡◌, ◌≤◌, [], IfOk, IsErrOf};
-ghost use Rattle.json_values.specs.Counts.{Rose};
+ghost use Rattle.json_values.specs.Counts.{Increased};
 ghost use Rattle.oci_transport.specs.Link.{Link, Steady, Answers, AddsUnanswered, AddsAtMost, LeavesRest, Takes};
 ghost use Rattle.oci_transport.specs.declared.transport.LinkError.TheVariants.{WantOfMemory as out_of_memory};
 
@@ -59,7 +59,7 @@ pub trait Transport {
         ensures nothing { IsErrOf result LinkError.Failed
             → LeavesRest [] (state self.old) (state self.new) }
         ensures fault { IsErrOf result LinkError.Failed
-            → Rose (state self.old).faults (state self.new).faults }
+            → Increased (state self.old).faults (state self.new).faults }
         ensures memory { IsErrOf result LinkError.WantOfMemory
             → AddsAtMost request.now (state self.old) (state self.new) };
 
@@ -70,7 +70,7 @@ pub trait Transport {
         ensures count { (state self.old).faults ≤ (state self.new).faults }
         ensures taken { IfOk result (λ piece. Takes piece (state self.old) (state self.new)) }
         ensures fault { IsErrOf result LinkError.Failed
-            → Rose (state self.old).faults (state self.new).faults };
+            → Increased (state self.old).faults (state self.new).faults };
 
     /// Returns the number of failures so far, saturating at `u64::MAX`.
     fn faults(&self) -> u64

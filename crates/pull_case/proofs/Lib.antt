@@ -2,5 +2,5 @@ pub mod AnswerParts
 pub mod CaseParts
 pub mod Full
 pub mod HeaderSteps
-pub mod ShelfCalm
+pub mod ShelfFaults
 pub mod Written

@@ -2,7 +2,7 @@
 use Rattle.std.proofs.Common.{◌≡◌, ℕ, Bool, ◌&&◌, List, [], ◌∷◌, refl, ap, ◌∙◌}
 use Rattle.std.specs.List.{list_all}
 use Rattle.cosign_layers.specs.Constraint.{has_no_item, accepts}
-use Rattle.cosign_layers.specs.Standing.{Owns, is_signed, stands}
+use Rattle.cosign_layers.specs.Satisfying.{CustomVerdict, is_signed, satisfies_policy}
 use Rattle.cosign_layers.specs.Trust.{Valid}
 use Rattle.cosign_layers.specs.declared.layer.SignatureLayer.{SignatureLayer}
 use Rattle.pull_case.specs.Policy.{constraint_by, constraints_by}
@@ -14,7 +14,7 @@ pub no_item_same : (V W : Type 0) (H : V → Type 0) (I : W → Type 0) (written
 no_item_same V W H I [] = refl
 no_item_same V W H I (c ∷ written) = refl
 
-module _ (V W : Type 0) (H : V → Type 0) (I : W → Type 0) (own : Owns V H) (other : Owns W I) (layer : SignatureLayer) where
+module _ (V W : Type 0) (H : V → Type 0) (I : W → Type 0) (own : CustomVerdict V H) (other : CustomVerdict W I) (layer : SignatureLayer) where
   pub accepts_same : (c : WrittenConstraint)
       → accepts {V = V} {H = H} own (constraint_by c) layer ≡ accepts {V = W} {H = I} other (constraint_by c) layer
   accepts_same (Annotations asked) = refl
@@ -29,11 +29,11 @@ module _ (V W : Type 0) (H : V → Type 0) (I : W → Type 0) (own : Owns V H) (
       ap (λ (b : Bool). b && list_all (λ c. accepts {V = V} {H = H} own c layer) (constraints_by written)) (accepts_same c)
       ∙ ap (λ (b : Bool). accepts {V = W} {H = I} other (constraint_by c) layer && b) (all_same written)
 
-pub stands_same : (V W : Type 0) (H : V → Type 0) (I : W → Type 0) (own : Owns V H) (other : Owns W I)
+pub stands_same : (V W : Type 0) (H : V → Type 0) (I : W → Type 0) (own : CustomVerdict V H) (other : CustomVerdict W I)
     (keys : List (List ℕ)) (written : List WrittenConstraint) (valid : Valid) (layer : SignatureLayer)
-    → stands {V = V} {H = H} valid (record { keys = keys; constraints = constraints_by written }) own layer
-    ≡ stands {V = W} {H = I} valid (record { keys = keys; constraints = constraints_by written }) other layer
-unfolding stands
+    → satisfies_policy {V = V} {H = H} valid (record { keys = keys; constraints = constraints_by written }) own layer
+    ≡ satisfies_policy {V = W} {H = I} valid (record { keys = keys; constraints = constraints_by written }) other layer
+unfolding satisfies_policy
 stands_same V W H I own other keys written valid layer =
     ap (λ (b : Bool). is_signed {V = V} {H = H} valid (record { keys = keys; constraints = constraints_by written }) layer && b)
     (all_same V W H I own other layer written)

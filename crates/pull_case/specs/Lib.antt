@@ -5,7 +5,7 @@ pub mod Constraint
 pub mod Members
 pub mod Platform
 pub mod Policy
-pub mod Quiet
+pub mod HasNoFaults
 pub mod Registry
 pub mod Replay
 pub mod Shelf

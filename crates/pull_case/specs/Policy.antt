@@ -1,7 +1,7 @@
 -- The policy of a case, and whom it trusts.
 use Rattle.std.specs.Prelude.{List, map, false}
 use Rattle.cosign_layers.specs.Judge.{vouched_in}
-use Rattle.cosign_layers.specs.Standing.{Meaning, meaning}
+use Rattle.cosign_layers.specs.Satisfying.{PolicyContext, policy_context}
 use Rattle.cosign_layers.specs.Trust.{Trust, trust}
 use Rattle.cosign_layers.specs.Verifier.{valid_in}
 use Rattle.cosign_layers.specs.declared.constraint.Constraint.{Constraint}
@@ -29,5 +29,5 @@ policy_of case = record { keys = case.keys; constraints = constraints_by case.co
 abbrev pub trust_of : Case → Trust
 trust_of case = trust (valid_in (record { rows = case.signatures })) (vouched_in case.vouched) case.log_keys
 
-abbrev pub meaning_of : Case → Meaning ⊥ (λ v. ⊥)
-meaning_of case = meaning (policy_of case) (λ box layer. false) (trust_of case)
+abbrev pub meaning_of : Case → PolicyContext ⊥ (λ v. ⊥)
+meaning_of case = policy_context (policy_of case) (λ box layer. false) (trust_of case)

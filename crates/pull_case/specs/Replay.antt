@@ -1,6 +1,6 @@
 -- The state of a replay of a case's registry.
 use Rattle.std.specs.Prelude.{◌≡◌, IsTrue, List, Some, None}
-use Rattle.oci_transport.specs.Calm.{calm}
+use Rattle.oci_transport.specs.FaultsOnlyWhere.{faults_only_where}
 use Rattle.oci_transport.specs.Link.{Link, Answering}
 use Rattle.oci_transport.specs.Recorded as recorded
 use Rattle.oci_transport.specs.Script as script
@@ -8,9 +8,9 @@ use Rattle.oci_transport.specs.declared.message.Exchange.{Exchange}
 use Rattle.oci_link.specs.State as shelf
 use Rattle.pull_case.specs.declared.replay.Replay.{Replay}
 use Rattle.pull_case.specs.declared.replay.Replay.TheVariants.{Script, Shelf}
-use Rattle.pull_case.specs.declared.quiet_shelf.QuietShelf.{QuietShelf}
+use Rattle.pull_case.specs.declared.faultless_shelf.FaultlessShelf.{FaultlessShelf}
 
-abbrev pub quiet_state_of : QuietShelf → Link
+abbrev pub quiet_state_of : FaultlessShelf → Link
 quiet_state_of t = shelf.state_of t.transport
 
 abbrev pub state_of : Replay → Link
@@ -32,6 +32,6 @@ FaultIsNext (Script s) = script.stop_of s ≡ Some (script.given_of s)
 FaultIsNext (Shelf t) = ⊥
 
 -- it failed only if its recording or shelf may fail
-abbrev pub IsCalm : Replay → Type 0
-IsCalm replay = (told : List Exchange) → (state_of replay).told ≡ Some told
-    → IsTrue (calm (answering_of replay).fails 0 told (state_of replay).faults)
+abbrev pub FaultsOnlyWhereRecorded : Replay → Type 0
+FaultsOnlyWhereRecorded replay = (told : List Exchange) → (state_of replay).told ≡ Some told
+    → IsTrue (faults_only_where (answering_of replay).fails 0 told (state_of replay).faults)

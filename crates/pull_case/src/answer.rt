@@ -1,7 +1,7 @@
 // Recorded answers.
 ghost use Rattle.std.specs.Prelude.{◌≡◌, ◌↔◌, [], None, IsTrue, codes};
 ghost use Rattle.serde_json.specs.View.{view};
-ghost use Rattle.json_tables.specs.Outcomes.{Gives};
+ghost use Rattle.json_tables.specs.Outcomes.{ReadsTo};
 ghost use Rattle.json_tables.specs.Bytes.{bytes_of};
 ghost use Rattle.json_tables.specs.Reading.{list_of};
 ghost use Rattle.json_tables.specs.Member.{at_name, required};
@@ -47,7 +47,7 @@ fn failing(alloc: Global) -> Recorded
 
 #[tactic(auto, unfolding(crate::specs::Answer::answering))]
 fn read_answer(alloc: Global, value: &Value) -> Result<Recorded, ReadError>
-    ensures { Gives result (answering (view value.now)) }
+    ensures { ReadsTo result (answering (view value.now)) }
 {
     only(value, &["status", "headers", "pieces", "fault"])?;
     let status = read_status(alloc, value)?;
@@ -68,7 +68,7 @@ fn read_answer(alloc: Global, value: &Value) -> Result<Recorded, ReadError>
 
 // The status, an integer from 100 to 999.
 fn read_status(alloc: Global, value: &Value) -> Result<u16, ReadError>
-    ensures { Gives result (required status_of (codes "status") (view value.now)) }
+    ensures { ReadsTo result (required status_of (codes "status") (view value.now)) }
 {
     let status: u16 = required(alloc, value, "status")?;
     if status < 100 || status > 999 {
@@ -79,7 +79,7 @@ fn read_status(alloc: Global, value: &Value) -> Result<u16, ReadError>
 
 // The pieces of the body; none if the member is absent.
 fn read_pieces(alloc: Global, value: &Value) -> Result<List<Blob>, ReadError>
-    ensures { Gives result (at_name (unless_absent [] (list_of bytes_of)) (codes "pieces") (view value.now)) }
+    ensures { ReadsTo result (at_name (unless_absent [] (list_of bytes_of)) (codes "pieces") (view value.now)) }
 {
     match value.get("pieces") {
         Some(pieces) => Reads::read_value(alloc, pieces),
@@ -89,7 +89,7 @@ fn read_pieces(alloc: Global, value: &Value) -> Result<List<Blob>, ReadError>
 
 // Before how many pieces a call fails; never if the member is absent.
 fn read_fault(alloc: Global, value: &Value) -> Result<Option<u64>, ReadError>
-    ensures { Gives result (at_name (unless_absent None number_of) (codes "fault") (view value.now)) }
+    ensures { ReadsTo result (at_name (unless_absent None number_of) (codes "fault") (view value.now)) }
 {
     match value.get("fault") {
         Some(fault) => Ok(Some(Reads::read_value(alloc, fault)?)),

@@ -1,7 +1,7 @@
 // Constraints of a policy as written in a case.
 ghost use Rattle.std.specs.Prelude.{codes, option_map};
 ghost use Rattle.serde_json.specs.View.{view};
-ghost use Rattle.json_tables.specs.Outcomes.{Gives};
+ghost use Rattle.json_tables.specs.Outcomes.{ReadsTo};
 ghost use Rattle.json_tables.specs.Reading.{text_of};
 ghost use Rattle.json_tables.specs.Member.{required};
 ghost use Rattle.pull_case.specs.Constraint.{annotations_of, email_of, subject_of, url_of};
@@ -45,7 +45,7 @@ impl Entry for WrittenConstraint {
 
 // A constraint on a certificate's subject.
 fn read_subject(alloc: Global, value: &Value) -> Result<WrittenConstraint, ReadError>
-    ensures { Gives result (subject_of (view value.now)) }
+    ensures { ReadsTo result (subject_of (view value.now)) }
 {
     match read_email(alloc, value) {
         Ok(asked) => Ok(WrittenConstraint::Email(asked)),
@@ -59,7 +59,7 @@ fn read_subject(alloc: Global, value: &Value) -> Result<WrittenConstraint, ReadE
 
 #[tactic(auto, unfolding(crate::specs::Constraint::annotations_of))]
 fn read_annotations(alloc: Global, value: &Value) -> Result<AnnotationVerifier, ReadError>
-    ensures { Gives result (annotations_of (view value.now)) }
+    ensures { ReadsTo result (annotations_of (view value.now)) }
 {
     only(value, &["annotations"])?;
     let annotations = required(alloc, value, "annotations")?;
@@ -68,7 +68,7 @@ fn read_annotations(alloc: Global, value: &Value) -> Result<AnnotationVerifier, 
 
 #[tactic(auto, unfolding(crate::specs::Constraint::email_of))]
 fn read_email(alloc: Global, value: &Value) -> Result<CertSubjectEmailVerifier, ReadError>
-    ensures { Gives result (email_of (view value.now)) }
+    ensures { ReadsTo result (email_of (view value.now)) }
 {
     only(value, &["email", "issuer"])?;
     let email: Text = required(alloc, value, "email")?;
@@ -78,7 +78,7 @@ fn read_email(alloc: Global, value: &Value) -> Result<CertSubjectEmailVerifier, 
 
 #[tactic(auto, unfolding(crate::specs::Constraint::url_of))]
 fn read_url(alloc: Global, value: &Value) -> Result<CertSubjectUrlVerifier, ReadError>
-    ensures { Gives result (url_of (view value.now)) }
+    ensures { ReadsTo result (url_of (view value.now)) }
 {
     only(value, &["url", "issuer"])?;
     let url: Text = required(alloc, value, "url")?;
@@ -88,7 +88,7 @@ fn read_url(alloc: Global, value: &Value) -> Result<CertSubjectUrlVerifier, Read
 
 // The issuer; null accepts every issuer.
 fn read_issuer(alloc: Global, value: &Value) -> Result<Option<Text>, ReadError>
-    ensures { Gives result (required (null_or text_of) (codes "issuer") (view value.now)) }
+    ensures { ReadsTo result (required (null_or text_of) (codes "issuer") (view value.now)) }
 {
     match value.get("issuer") {
         None => Err(ReadError::Shape),

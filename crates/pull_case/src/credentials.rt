@@ -1,7 +1,7 @@
 // The credentials of a case.
 ghost use Rattle.std.specs.Option.{option_or};
 ghost use Rattle.serde_json.specs.View.{view};
-ghost use Rattle.json_tables.specs.Outcomes.{Gives};
+ghost use Rattle.json_tables.specs.Outcomes.{ReadsTo};
 ghost use Rattle.oci_auth.specs.declared.auth.RegistryAuth.TheVariants.{Anonymous};
 ghost use Rattle.pull_case.specs.Auth.{basic_of, bearer_of, auth_of};
 
@@ -35,7 +35,7 @@ impl Usual for RegistryAuth {
 
 // A user name and a password, or a token.
 fn read_object(alloc: Global, value: &Value) -> Result<RegistryAuth, ReadError>
-    ensures { Gives result (option_or (basic_of (view value.now)) (bearer_of (view value.now))) }
+    ensures { ReadsTo result (option_or (basic_of (view value.now)) (bearer_of (view value.now))) }
 {
     match read_basic(alloc, value) {
         Ok(auth) => Ok(auth),
@@ -49,7 +49,7 @@ fn read_object(alloc: Global, value: &Value) -> Result<RegistryAuth, ReadError>
 
 #[tactic(auto, unfolding(crate::specs::Auth::basic_of))]
 fn read_basic(alloc: Global, value: &Value) -> Result<RegistryAuth, ReadError>
-    ensures { Gives result (basic_of (view value.now)) }
+    ensures { ReadsTo result (basic_of (view value.now)) }
 {
     only(value, &["basic"])?;
     let (user, password): (Text, Text) = required(alloc, value, "basic")?;
@@ -58,7 +58,7 @@ fn read_basic(alloc: Global, value: &Value) -> Result<RegistryAuth, ReadError>
 
 #[tactic(auto, unfolding(crate::specs::Auth::bearer_of))]
 fn read_bearer(alloc: Global, value: &Value) -> Result<RegistryAuth, ReadError>
-    ensures { Gives result (bearer_of (view value.now)) }
+    ensures { ReadsTo result (bearer_of (view value.now)) }
 {
     only(value, &["bearer"])?;
     let token: Text = required(alloc, value, "bearer")?;

@@ -3,7 +3,7 @@ ghost use Rattle.serde_json.specs.Data.{Data};
 ghost use Rattle.serde_json.specs.View.{view, items_view, members_view};
 ghost use Rattle.std.specs.Prelude.{◌≡◌, Option};
 ghost use Rattle.std.specs.FinMap.{empty};
-ghost use Rattle.json_tables.specs.Outcomes.{Gives};
+ghost use Rattle.json_tables.specs.Outcomes.{ReadsTo};
 ghost use Rattle.json_tables.specs.Reading.{items_by, list_of, map_of, members_by};
 ghost use Rattle.json_tables.specs.Member.{present};
 ghost use Rattle.pull_case.specs.Members.{unless_absent};
@@ -21,7 +21,7 @@ pub trait Entry: Sized {
 
     /// Parses a value. Returns `Shape` if and only if the value does not match.
     fn read_entry(alloc: Global, value: &Value) -> Result<Self, ReadError>
-        ensures { Gives result (entry (view value.now)) };
+        ensures { ReadsTo result (entry (view value.now)) };
 }
 
 /// A list of entries. A contract sees the list of their values.
@@ -51,7 +51,7 @@ impl<T: Entry + Drop> Member for Entries<T> {
 }
 
 fn read_entries<T: Entry + Drop>(alloc: Global, items: &[Value]) -> Result<List<T>, ReadError>
-    ensures { Gives result (items_by T.entry (items_view items.now)) }
+    ensures { ReadsTo result (items_by T.entry (items_view items.now)) }
 {
     let mut list = List::new(alloc);
     for item in items {
@@ -94,7 +94,7 @@ fn read_map<T: Entry + Drop>(
     alloc: Global,
     members: &Map<String, Value>,
 ) -> Result<TextMap<T>, ReadError>
-    ensures { Gives result (members_by T.entry empty (members_view members.now.entries)) }
+    ensures { ReadsTo result (members_by T.entry empty (members_view members.now.entries)) }
 {
     let mut found = TextMap::new(alloc);
     for (name, member) in members.iter() {

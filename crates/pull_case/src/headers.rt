@@ -2,7 +2,7 @@
 ghost use Rattle.std.specs.Prelude.{codes};
 ghost use Rattle.std.specs.FinMap.{empty};
 ghost use Rattle.serde_json.specs.View.{view};
-ghost use Rattle.json_tables.specs.Outcomes.{Gives};
+ghost use Rattle.json_tables.specs.Outcomes.{ReadsTo};
 ghost use Rattle.json_tables.specs.Member.{at_name};
 ghost use Rattle.pull_case.specs.Answer.{with_headers, headers_of, Adds};
 ghost use Rattle.pull_case.specs.Members.{unless_absent};
@@ -15,7 +15,7 @@ use std::alloc::Global;
 
 /// Reads the headers, a list of pairs of a name and a string; none if the member is absent.
 pub fn read_headers(alloc: Global, value: &Value) -> Result<Headers, ReadError>
-    ensures { Gives result (at_name (unless_absent empty headers_of) (codes "headers") (view value.now)) }
+    ensures { ReadsTo result (at_name (unless_absent empty headers_of) (codes "headers") (view value.now)) }
 {
     let Some(headers) = value.get("headers") else {
         return Ok(Headers::new(alloc));
@@ -26,7 +26,7 @@ pub fn read_headers(alloc: Global, value: &Value) -> Result<Headers, ReadError>
 }
 
 fn headers_from(alloc: Global, pairs: &[(Text, Text)]) -> Result<Headers, ReadError>
-    ensures { Gives result (with_headers empty pairs.now) }
+    ensures { ReadsTo result (with_headers empty pairs.now) }
 {
     let mut headers = Headers::new(alloc);
     for (name, text) in pairs {

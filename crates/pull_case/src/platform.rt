@@ -1,6 +1,6 @@
 // Which image of an index is selected.
 ghost use Rattle.serde_json.specs.View.{view};
-ghost use Rattle.json_tables.specs.Outcomes.{Gives};
+ghost use Rattle.json_tables.specs.Outcomes.{ReadsTo};
 ghost use Rattle.json_tables.specs.Member.{unless_null};
 ghost use Rattle.pull_case.specs.Platform.{fixed_of, platform_named, platform_of};
 
@@ -45,7 +45,7 @@ impl Member for Platform {
 
 #[tactic(auto, unfolding(crate::specs::Platform::platform_of))]
 fn read_platform(alloc: Global, value: &Value) -> Result<PlatformResolver, ReadError>
-    ensures { Gives result (platform_of (view value.now)) }
+    ensures { ReadsTo result (platform_of (view value.now)) }
 {
     match value {
         Value::String(text) => read_named(alloc, text.as_str()),
@@ -55,7 +55,7 @@ fn read_platform(alloc: Global, value: &Value) -> Result<PlatformResolver, ReadE
 
 // An operating system and an architecture, before and after the first slash.
 fn read_named(alloc: Global, text: &str) -> Result<PlatformResolver, ReadError>
-    ensures { Gives result (platform_named text.now) }
+    ensures { ReadsTo result (platform_named text.now) }
 {
     let Some((os, architecture)) = text.split_once('/') else {
         return Err(ReadError::Shape);
@@ -67,7 +67,7 @@ fn read_named(alloc: Global, text: &str) -> Result<PlatformResolver, ReadError>
 
 #[tactic(auto, unfolding(crate::specs::Platform::fixed_of))]
 fn read_fixed(alloc: Global, value: &Value) -> Result<PlatformResolver, ReadError>
-    ensures { Gives result (fixed_of (view value.now)) }
+    ensures { ReadsTo result (fixed_of (view value.now)) }
 {
     only(value, &["digest"])?;
     let digest: Text = required(alloc, value, "digest")?;

@@ -1,6 +1,6 @@
 // The responses of a case's registry.
 ghost use Rattle.serde_json.specs.View.{view};
-ghost use Rattle.json_tables.specs.Outcomes.{Gives};
+ghost use Rattle.json_tables.specs.Outcomes.{ReadsTo};
 ghost use Rattle.pull_case.specs.Registry.{registry_of};
 
 use crate::entries::Entries;
@@ -28,7 +28,7 @@ pub enum Registry {
 /// Reads exactly one of the members `answers` and `shelf`.
 #[tactic(auto, unfolding(crate::specs::Registry::registry_of))]
 pub fn read_registry(alloc: Global, value: &Value) -> Result<Registry, ReadError>
-    ensures { Gives result (registry_of (view value.now)) }
+    ensures { ReadsTo result (registry_of (view value.now)) }
 {
     match (value.get("answers"), value.get("shelf")) {
         (Some(answers), None) => {

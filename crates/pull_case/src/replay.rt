@@ -1,10 +1,10 @@
 // A transport that responds as a case says.
 ghost use Rattle.std.specs.Prelude.{◌≡◌, [], IsTrue, Some};
-ghost use Rattle.oci_transport.specs.Calm.{calm};
+ghost use Rattle.oci_transport.specs.FaultsOnlyWhere.{faults_only_where};
 ghost use Rattle.pull_case.specs.Registry.{Leads, answering_by};
 ghost use Rattle.pull_case.specs.Replay.{answering_of, state_of};
 
-use crate::quiet_shelf::QuietShelf;
+use crate::faultless_shelf::FaultlessShelf;
 use crate::registry::Registry;
 use json_values::Blob;
 use oci_transport::{AnswerHead, Conversation, LinkError, Request, Script, Transport};
@@ -17,7 +17,7 @@ pub enum Replay {
     /// Recorded answers, in order.
     Script(Script),
     /// The response table of a shelf.
-    Shelf(QuietShelf),
+    Shelf(FaultlessShelf),
 }
 
 impl Replay {
@@ -30,14 +30,15 @@ impl Replay {
     {
         match registry {
             Registry::Answers(answers) => Replay::Script(Script::new(alloc, answers)),
-            Registry::Shelf(shelf) => Replay::Shelf(QuietShelf::new(alloc, shelf)),
+            Registry::Shelf(shelf) => Replay::Shelf(FaultlessShelf::new(alloc, shelf)),
         }
     }
 
     /// Returns all exchanges so far.
     pub fn conversation(&self) -> &Conversation
         ensures told { Some result.now ≡ (state_of self.now).told }
-        ensures calm { IsTrue (calm (answering_of self.now).fails 0 result.now (state_of self.now).faults) }
+        ensures faults_recorded { IsTrue
+            (faults_only_where (answering_of self.now).fails 0 result.now (state_of self.now).faults) }
     {
         match self {
             Replay::Script(script) => script.conversation(),
@@ -48,7 +49,7 @@ impl Replay {
 
 impl Transport for Replay {
     ghost use Rattle.std.specs.Prelude.{◌≤◌, IfOk, OnOk, IsErrOf};
-    ghost use Rattle.json_values.specs.Counts.{Rose};
+    ghost use Rattle.json_values.specs.Counts.{Increased};
     ghost use Rattle.oci_transport.specs.Link.{Answers, AddsUnanswered, AddsAtMost, LeavesRest, Takes, Steady};
     ghost use Rattle.pull_case.specs.Replay.{state_of, IsUnanswered, FaultIsNext};
 
@@ -63,11 +64,11 @@ impl Transport for Replay {
         ensures nothing { IsErrOf result LinkError.Failed
             → LeavesRest [] (state_of self.old) (state_of self.new) }
         ensures fault { IsErrOf result LinkError.Failed
-            → Rose (state_of self.old).faults (state_of self.new).faults }
+            → Increased (state_of self.old).faults (state_of self.new).faults }
         ensures memory { IsErrOf result LinkError.WantOfMemory
             → AddsAtMost request.now (state_of self.old) (state_of self.new) }
         ensures fails { IsErrOf result LinkError.Failed → IsUnanswered self.old }
-        ensures serves { OnOk result (IsUnanswered self.old → ⊥) }
+        ensures succeeds { OnOk result (IsUnanswered self.old → ⊥) }
     {
         match self {
             Replay::Script(script) => script.send(alloc, request),
@@ -81,7 +82,7 @@ impl Transport for Replay {
         ensures count { (state_of self.old).faults ≤ (state_of self.new).faults }
         ensures taken { IfOk result (λ piece. Takes piece (state_of self.old) (state_of self.new)) }
         ensures fault { IsErrOf result LinkError.Failed
-            → Rose (state_of self.old).faults (state_of self.new).faults }
+            → Increased (state_of self.old).faults (state_of self.new).faults }
         ensures met { IsErrOf result LinkError.Failed → FaultIsNext self.old }
         ensures passed { OnOk result (FaultIsNext self.old → ⊥) }
     {

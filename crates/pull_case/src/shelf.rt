@@ -1,6 +1,6 @@
 // A registry in memory, as written in a case.
 ghost use Rattle.serde_json.specs.View.{view};
-ghost use Rattle.json_tables.specs.Outcomes.{Gives};
+ghost use Rattle.json_tables.specs.Outcomes.{ReadsTo};
 ghost use Rattle.pull_case.specs.Shelf.{maps_of, shelf_of};
 
 use crate::entries::{Entry, EntryMap, OrUsual, Usual};
@@ -75,7 +75,7 @@ type Members = (Text, Tags);
 // The maps of a shelf, whether its redirects end or not.
 #[tactic(auto, unfolding(crate::specs::Shelf::maps_of))]
 fn read_maps(alloc: Global, value: &Value) -> Result<Shelf, ReadError>
-    ensures { Gives result (maps_of (view value.now)) }
+    ensures { ReadsTo result (maps_of (view value.now)) }
 {
     only(value, NAMES)?;
     let row![repository, tags, documents, blobs, referrers, redirects]: Members = read_row::<
@@ -94,7 +94,7 @@ fn read_maps(alloc: Global, value: &Value) -> Result<Shelf, ReadError>
 
 /// Reads a shelf whose redirects all end.
 pub fn read_shelf(alloc: Global, value: &Value) -> Result<Shelf, ReadError>
-    ensures { Gives result (shelf_of (view value.now)) }
+    ensures { ReadsTo result (shelf_of (view value.now)) }
 {
     let shelf = read_maps(alloc, value)?;
     let lead = shelf.redirects_lead(alloc)?;

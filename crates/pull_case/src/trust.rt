@@ -2,7 +2,7 @@
 ghost use Rattle.std.specs.Prelude.{◌≡◌, []};
 ghost use Rattle.std.specs.FinMap.{empty};
 ghost use Rattle.serde_json.specs.View.{view};
-ghost use Rattle.json_tables.specs.Outcomes.{Gives};
+ghost use Rattle.json_tables.specs.Outcomes.{ReadsTo};
 ghost use Rattle.pull_case.specs.Trust.{judge_by, log_keys_of};
 
 use crate::entries::{Entries, Entry, Usual};

@@ -10,7 +10,7 @@ use Rattle.oci_auth.specs.declared.auth.RegistryAuth.{RegistryAuth}
 use Rattle.engine_terms.specs.Contexts.{within}
 use Rattle.oci_transport.specs.declared.message.Exchange.{Exchange}
 use Rattle.sig_calls.specs.Clients.{Kept, Client}
-use Rattle.cosign_layers.specs.Standing.{Owns, meaning}
+use Rattle.cosign_layers.specs.Satisfying.{CustomVerdict, policy_context}
 use Rattle.cosign_layers.specs.Verifier.{valid_in}
 use Rattle.cosign_layers.specs.declared.layer.SignatureLayer.{SignatureLayer}
 use Rattle.cosign_layers.specs.declared.policy.PullPolicy.{PullPolicy}
@@ -36,8 +36,8 @@ use Rattle.pull_cases.specs.Opening.{client_in, Opens}
 use Rattle.pull_cases.specs.declared.pulls.Opened.{Opened}
 use Rattle.pull_case.specs.Registry.{answering_by}
 use Rattle.pull_cases.proofs.PullsInTurn.{Turns, turns}
-use Rattle.pull_cases.specs.Pulls.{Talk, InTurn, settings_of, row_of, SoundResult, EachSound, ReportsCase}
-use Rattle.pull_cases.specs.Rounds.{row_by, row_for, Played}
+use Rattle.pull_cases.specs.Pulls.{PullRecord, InTurn, settings_of, row_of, SoundResult, EachSound, ReportsCase}
+use Rattle.pull_cases.specs.PullsAt.{row_by, row_for, Replayed}
 use Rattle.pull_cases.specs.declared.pulls.Terms.{Terms}
 use Rattle.sig_settings.specs.Auths.{registry_auth}
 use Rattle.sig_calls.specs.Direct.{reference_in}
@@ -48,11 +48,11 @@ policy_is : {V : Type 0} {H : V → Type 0} (policy : PullPolicy V H) (case : Ca
 policy_is policy case keys constraints = rw (← keys, ← constraints) refl
 
 -- the row of the policy that a case yields is the case's row
-row_same : {V : Type 0} {H : V → Type 0} (policy : PullPolicy V H) (own : Owns V H) (case : Case) (image : Reference) → policy ≡ record { keys = case.keys; constraints = constraints_by case.constraints }
-    → row_by (meaning policy own (trust_of case)) (settings_of case) image case.auth case.accepted ≡ row_of case image
+row_same : {V : Type 0} {H : V → Type 0} (policy : PullPolicy V H) (own : CustomVerdict V H) (case : Case) (image : Reference) → policy ≡ record { keys = case.keys; constraints = constraints_by case.constraints }
+    → row_by (policy_context policy own (trust_of case)) (settings_of case) image case.auth case.accepted ≡ row_of case image
 row_same {V} {H} policy own case image is =
-    ap (λ (p : PullPolicy V H). row_by (meaning p own (trust_of case)) (settings_of case) image case.auth case.accepted) is
-    ∙ fun_ext (λ moment. verified_same (meaning (record { keys = case.keys; constraints = constraints_by case.constraints }) own (trust_of case)) (meaning_of case) (within (settings_of case) moment) image case.auth case.accepted
+    ap (λ (p : PullPolicy V H). row_by (policy_context p own (trust_of case)) (settings_of case) image case.auth case.accepted) is
+    ∙ fun_ext (λ moment. verified_same (policy_context (record { keys = case.keys; constraints = constraints_by case.constraints }) own (trust_of case)) (meaning_of case) (within (settings_of case) moment) image case.auth case.accepted
     (no_item_same V ⊥ H (λ v. ⊥) case.constraints)
     (λ layer. stands_same V ⊥ H (λ v. ⊥) own (λ box layer. false) case.keys case.constraints (valid_in (record { rows = case.signatures })) layer) refl)
 
@@ -60,14 +60,14 @@ sound_result : (case : Case) (image : Reference) (k : Kept) (moment m n : ℕ) (
 sound_result case image k moment m n c (Ok v) h = h
 sound_result case image k moment m n c (Err e) h = tt
 
-each_sound : (case : Case) (image : Reference) (k l : Kept) (m n : ℕ) (talks : List Talk) → Turns (row_of case image) k m talks l n → EachSound case image talks
+each_sound : (case : Case) (image : Reference) (k l : Kept) (m n : ℕ) (talks : List PullRecord) → Turns (row_of case image) k m talks l n → EachSound case image talks
 each_sound case image k l m n [] h = tt
 each_sound case image k l m n (talk ∷ talks) h = (sound_result case image talk.before talk.moment m h.2 talk.conversation talk.result ((verified_seen talk.before (within (settings_of case) talk.moment) (meaning_of case) image case.auth case.accepted).seen h.1 m h.2 talk.conversation talk.result h.3), each_sound case image h.1 l h.2 n talks h.4)
 
 -- what was replayed of a case is its report
 pub reports_case : {V : Type 0} {H : V → Type 0} (policy : PullPolicy V H) (own : DynBox V Global H → SignatureLayer → Bool) (case : Case) (image : Reference) (l : Kept) (made : Report)
     → reference_of case.reference ≡ Ok image → policy.keys ≡ case.keys → policy.constraints ≡ constraints_by case.constraints
-    → Played (row_by (meaning policy own (trust_of case)) (settings_of case) image case.auth case.accepted) case.registry case.moments (fresh case.caching) l made → ReportsCase case made
+    → Replayed (row_by (policy_context policy own (trust_of case)) (settings_of case) image case.auth case.accepted) case.registry case.moments (fresh case.caching) l made → ReportsCase case made
 reports_case policy own case image l made reads keys constraints played =
     let turn = subst (λ row. InTurn row (answering_by case.registry) 0 (fresh case.caching) 0 played.talks l played.faults) (row_same policy own case image (policy_is policy case keys constraints)) played.in_turn in
     record {
@@ -104,27 +104,27 @@ terms_in o constraints = record {
 }
 
 -- the same for a new client
-pub reports_fresh : {V : Type 0} {H : V → Type 0} (own : Owns V H) (case : Case) (terms : Terms V H) (client : Client) (log_keys : FinMap by_bytes (List ℕ)) (moments : List ℕ) (l : Kept) (made : Report)
+pub reports_fresh : {V : Type 0} {H : V → Type 0} (own : CustomVerdict V H) (case : Case) (terms : Terms V H) (client : Client) (log_keys : FinMap by_bytes (List ℕ)) (moments : List ℕ) (l : Kept) (made : Report)
     → client ≡ record { settings = settings_of case; kept = fresh case.caching } → log_keys ≡ case.log_keys → moments ≡ case.moments
     → registry_auth terms.auth ≡ case.auth → terms.accepted ≡ case.accepted
     → terms.verifier ≡ record { rows = case.signatures } → terms.judge ≡ case.vouched
     → reference_of case.reference ≡ Ok (reference_in terms.image) → terms.policy.keys ≡ case.keys → terms.policy.constraints ≡ constraints_by case.constraints
-    → Played (row_for own terms client.settings log_keys) case.registry moments client.kept l made → ReportsCase case made
+    → Replayed (row_for own terms client.settings log_keys) case.registry moments client.kept l made → ReportsCase case made
 reports_fresh own case terms client log_keys moments l made is logs_are moments_are auth_is accepted_are verifier_is judge_is reads keys constraints played =
     reports_case terms.policy own case (reference_in terms.image) l made reads keys constraints
     (rw (is, logs_are, moments_are, auth_is, accepted_are, verifier_is, judge_is) at played)
 
 -- the same for a case that was opened
-pub reports_opened : {V : Type 0} {H : V → Type 0} (own : Owns V H) (case : Case) (asked : Asked) (o : Opened) (constraints : List (Constraint V H)) (moments : List ℕ) (l : Kept) (made : Report)
+pub reports_opened : {V : Type 0} {H : V → Type 0} (own : CustomVerdict V H) (case : Case) (asked : Asked) (o : Opened) (constraints : List (Constraint V H)) (moments : List ℕ) (l : Kept) (made : Report)
     → asked.usual ≡ default_config → Opens asked case o → moments ≡ o.moments
     → registry_auth asked.auth ≡ case.auth → reference_of case.reference ≡ Ok (reference_in asked.image) → constraints ≡ constraints_by case.constraints
-    → Played (row_for own (terms_in o constraints) (client_state o.client).settings o.client.rekor_pub_keys) o.registry moments (client_state o.client).kept l made → ReportsCase case made
+    → Replayed (row_for own (terms_in o constraints) (client_state o.client).settings o.client.rekor_pub_keys) o.registry moments (client_state o.client).kept l made → ReportsCase case made
 reports_opened own case asked o constraints moments l made usual opens moments_are auth_is reads constraints_are played =
     reports_fresh own case (terms_in o constraints) (client_state o.client) o.client.rekor_pub_keys moments l made
     (fresh_as asked.usual case usual opens.client) opens.log_keys (moments_are ∙ opens.moments)
     (ap registry_auth opens.auth ∙ auth_is) opens.accepted opens.verifier opens.judge
     (reads ∙ ap (λ (image : OciReference). Ok (reference_in image)) (sym opens.image)) opens.keys constraints_are
-    (subst (λ registry. Played (row_for own (terms_in o constraints) (client_state o.client).settings o.client.rekor_pub_keys) registry moments (client_state o.client).kept l made) opens.registry played)
+    (subst (λ registry. Replayed (row_for own (terms_in o constraints) (client_state o.client).settings o.client.rekor_pub_keys) registry moments (client_state o.client).kept l made) opens.registry played)
 
 pub ok_weaker : {A E : Type 0} {P Q : A → Type 0} (r : Result A E) → ((a : A) → P a → Q a) → IfOk r P → IfOk r Q
 ok_weaker (Ok a) more h = more a h

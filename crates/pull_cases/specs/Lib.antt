@@ -1,3 +1,3 @@
 pub mod Opening
 pub mod Pulls
-pub mod Rounds
+pub mod PullsAt

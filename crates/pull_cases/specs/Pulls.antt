@@ -3,7 +3,7 @@ use Rattle.std.specs.Prelude.{◌≡◌, ◌+◌, length, ℕ, Bool, true, false
 use Rattle.std.specs.Prelude.{Option, Some}
 use Rattle.std.specs.Prelude.{None, Result, Ok, Err, codes}
 use Rattle.oci_transport.specs.Link.{Answering, AnsweredBy}
-use Rattle.oci_transport.specs.Calm.{calm}
+use Rattle.oci_transport.specs.FaultsOnlyWhere.{faults_only_where}
 use Rattle.oci_transport.specs.declared.message.Exchange.{Exchange}
 use Rattle.oci_names.specs.declared.reference.Reference.{Reference}
 use Rattle.oci_names.specs.Reference.{reference_of}
@@ -24,27 +24,27 @@ use Rattle.pull_setup.specs.Clients.{settings_by, fresh}
 use Rattle.pull_cases.specs.declared.report.Report.{Report}
 
 -- one pull: the client state before it, its moment, its conversation and its result
-pub record Talk : Type 0 where
+pub record PullRecord : Type 0 where
   pub before : Kept
   pub moment : ℕ
   pub conversation : List Exchange
   pub result : Result VerifiedImage PullRefusal
 
-abbrev pub moment_of : Talk → ℕ
+abbrev pub moment_of : PullRecord → ℕ
 moment_of talk = talk.moment
 
-abbrev pub conversation_of : Talk → List Exchange
+abbrev pub conversation_of : PullRecord → List Exchange
 conversation_of talk = talk.conversation
 
 -- the exchanges of all pulls, in order
-abbrev pub joined : List Talk → List Exchange
+abbrev pub joined : List PullRecord → List Exchange
 joined talks = flat_map conversation_of talks
 
-abbrev pub report_of : Talk → List ℕ
+abbrev pub report_of : PullRecord → List ℕ
 report_of talk = report talk.moment talk.conversation talk.result
 
 -- the reports of the pulls
-abbrev pub reports : List Talk → List ℕ
+abbrev pub reports : List PullRecord → List ℕ
 reports talks = flat_map report_of talks
 
 abbrev pub is_answered : Result VerifiedImage PullRefusal → Bool
@@ -57,18 +57,18 @@ is_wanting (Ok image) = false
 is_wanting (Err refusal) = is_memory refusal
 
 -- memory ran out in none of the pulls
-abbrev pub EachWhole : List Talk → Type 0
+abbrev pub EachWhole : List PullRecord → Type 0
 EachWhole [] = Unit {0}
 EachWhole (talk ∷ talks) = (is_wanting talk.result ≡ false) × EachWhole talks
 
 -- whether no pull was refused
-abbrev pub all_answered : List Talk → Bool
+abbrev pub all_answered : List PullRecord → Bool
 all_answered [] = true
 all_answered (talk ∷ talks) = is_answered talk.result && all_answered talks
 
 -- Pulls in sequence, over a registry's responses from `place` on: each is a complete run of its row, and starts with
 -- the client state that the one before it left.
-abbrev pub InTurn : (ℕ → Whole VerifiedImage) → Answering → ℕ → Kept → ℕ → List Talk → Kept → ℕ → Type 0
+abbrev pub InTurn : (ℕ → Whole VerifiedImage) → Answering → ℕ → Kept → ℕ → List PullRecord → Kept → ℕ → Type 0
 InTurn row t place k m [] l n = (k ≡ l) × (m ≡ n)
 InTurn row t place k m (talk ∷ talks) l n =
     (k ≡ talk.before) × (kept : Kept) × (count : ℕ)
@@ -89,7 +89,7 @@ SoundResult case image k moment c (Ok v) =
     Sound k (within (settings_of case) moment) (meaning_of case) image case.auth case.accepted c v
 SoundResult case image k moment c (Err refusal) = Unit {0}
 
-abbrev pub EachSound : Case → Reference → List Talk → Type 0
+abbrev pub EachSound : Case → Reference → List PullRecord → Type 0
 EachSound case image [] = Unit {0}
 EachSound case image (talk ∷ talks) =
     SoundResult case image talk.before talk.moment talk.conversation talk.result × EachSound case image talks
@@ -98,7 +98,7 @@ EachSound case image (talk ∷ talks) =
 -- the answer of the shelf's table. The transport failed only if a fault is recorded: over a shelf nothing may fail,
 -- and the fault counts of all exchanges and the last one are equal. A fault recorded inside a body occurs if that body
 -- is read to its end. Memory ran out in none of the pulls.
-pub record Pulled (case : Case) (talks : List Talk) : Type 0 where
+pub record Pulled (case : Case) (talks : List PullRecord) : Type 0 where
   pub image : Reference
   pub reads : reference_of case.reference ≡ Ok image
   pub moments : map moment_of talks ≡ case.moments
@@ -106,13 +106,13 @@ pub record Pulled (case : Case) (talks : List Talk) : Type 0 where
   pub faults : ℕ
   pub in_turn : InTurn (row_of case image) (answering_by case.registry) 0 (fresh case.caching) 0 talks kept faults
   pub answered : AnsweredBy (answering_by case.registry) 0 (joined talks)
-  pub calm_is : IsTrue (calm (answering_by case.registry).fails 0 (joined talks) faults)
+  pub calm_is : IsTrue (faults_only_where (answering_by case.registry).fails 0 (joined talks) faults)
   pub sound : EachSound case image talks
   pub whole : EachWhole talks
 
 -- the output of a case is the report of its pulls
 pub record ReportsCase (case : Case) (made : Report) : Type 0 where
-  pub talks : List Talk
+  pub talks : List PullRecord
   pub pulled : Pulled case talks
   pub written : made.bytes ≡ reports talks
   pub refused : made.refused ≡ not (all_answered talks)

@@ -8,11 +8,11 @@ ghost use Rattle.pull_case.specs.Policy.{constraints_by};
 ghost use Rattle.cosign_client.specs.State.{client_state};
 ghost use Rattle.pull_case.specs.Case.{IsReady};
 ghost use Rattle.pull_case.specs.Registry.{Leads};
-ghost use Rattle.pull_case.specs.Replay.{IsCalm, state_of};
+ghost use Rattle.pull_case.specs.Replay.{FaultsOnlyWhereRecorded, state_of};
 ghost use Rattle.pull_report.specs.Report.{report as lines_of};
 ghost use Rattle.pull_cases.specs.Opening.{Opens};
 ghost use Rattle.pull_cases.specs.Pulls.{is_answered, is_wanting, ReportsCase};
-ghost use Rattle.pull_cases.specs.Rounds.{row_for, Round, Played};
+ghost use Rattle.pull_cases.specs.PullsAt.{row_for, OneMorePull, Replayed};
 
 use crate::report::Report;
 use cosign_client::{Client, PullRefusal, VerifiedImage};
@@ -20,7 +20,7 @@ use cosign_layers::{Constraint, PullPolicy, TableJudge, TableVerifier};
 use json_values::{Blob, List, Text};
 use oci_transport::Exchange;
 use pull_case::{Case, Registry, Replay, constraints_from};
-use pull_report::{let_go, write_report};
+use pull_report::{drop_outcome, write_report};
 use pull_setup::{Asked, WrittenClient, ask_for, client_by};
 use sig_registry::{Auth, OciReference};
 use std::alloc::{AllocError, Global};
@@ -77,13 +77,13 @@ fn pull_at(
     moment: u64,
     report: &mut Report,
 ) -> Result<(), AllocError>
-    ensures round { OnOk result (Round (row_for (λ b. accepts (b.vtable, b.value)) terms.now
+    ensures round { OnOk result (OneMorePull (row_for (λ b. accepts (b.vtable, b.value)) terms.now
         (client_state client.old).settings client.old.rekor_pub_keys)
         moment (state_of replay.old) (state_of replay.new)
         (client_state client.old).kept (client_state client.new).kept report.old report.new) }
     ensures settings { (client_state client.new).settings ≡ (client_state client.old).settings }
     ensures log_keys { client.new.rekor_pub_keys ≡ client.old.rekor_pub_keys }
-    ensures calm { OnOk result (IsCalm replay.new) }
+    ensures faults_recorded { OnOk result (FaultsOnlyWhereRecorded replay.new) }
 {
     let before = replay.conversation().as_slice().len();
     let outcome = client.verified_pull(
@@ -99,7 +99,7 @@ fn pull_at(
     );
     let conversation = replay.conversation().as_slice();
     let added = add_report(alloc, report, moment, &conversation[before..], &outcome);
-    let_go(outcome);
+    drop_outcome(outcome);
     added
 }
 
@@ -112,7 +112,7 @@ fn pull_each(
     moments: &[u64],
 ) -> Result<Report, AllocError>
     requires { Leads registry }
-    ensures { IfOk result (Played (row_for (λ b. accepts (b.vtable, b.value)) terms.now
+    ensures { IfOk result (Replayed (row_for (λ b. accepts (b.vtable, b.value)) terms.now
         (client_state client.old).settings client.old.rekor_pub_keys)
         registry moments.now (client_state client.old).kept (client_state client.new).kept) }
 {
@@ -199,7 +199,7 @@ fn make_pulls(
         judge,
     };
     let report = pull_each(alloc, &mut client, registry, &terms, moments.as_slice());
-    let_both_go(client, terms);
+    drop_both(client, terms);
     report
 }
 
@@ -233,4 +233,4 @@ fn without_memory(_case: Case) -> Result<Report, AllocError>
 }
 
 // Drops both in a function without other facts, so that each of their many parts is dropped once.
-fn let_both_go(_client: Client, _terms: Terms) {}
+fn drop_both(_client: Client, _terms: Terms) {}

@@ -7,7 +7,7 @@ use Rattle.oci_names.specs.Reference.{reference_of}
 use Rattle.oci_names.specs.declared.reference.Reference.{Reference}
 use Rattle.oci_platforms.specs.declared.promise.ResolverPromise.{ResolverPromise}
 use Rattle.cosign_layers.specs.Constraint.{accepts}
-use Rattle.cosign_layers.specs.Standing.{Meaning, Owns, StandsFor, meaning}
+use Rattle.cosign_layers.specs.Satisfying.{PolicyContext, CustomVerdict, StandsFor, policy_context}
 use Rattle.cosign_layers.specs.Trust.{Trust}
 use Rattle.cosign_layers.specs.declared.constraint.Constraint.{Constraint}
 use Rattle.cosign_layers.specs.declared.layer.SignatureLayer.{SignatureLayer}
@@ -24,7 +24,7 @@ use Rattle.pull_chain.specs.declared.input.ChainInput.{ChainInput}
 use Rattle.pull_chain.specs.declared.input.WrittenChain.{WrittenChain}
 
 -- the chain of the one image that was built
-built_holds : {V : Type 0} {H : V → Type 0} (m : Meaning V H) (image : Reference) (accepted : List (List ℕ)) (promise : Option ResolverPromise) (chain : WrittenChain) (found : VerifiedImage) (holds : Bool)
+built_holds : {V : Type 0} {H : V → Type 0} (m : PolicyContext V H) (image : Reference) (accepted : List (List ℕ)) (promise : Option ResolverPromise) (chain : WrittenChain) (found : VerifiedImage) (holds : Bool)
     → Builds m.trust chain (Some found) → IsTrue holds ↔ Chain m image accepted promise found → IsTrue holds ↔ HoldsUnder m image accepted promise chain
 built_holds m image accepted promise chain found holds built exact = (
   λ h. record { found = found; built = built.0; holds = exact.0 h },
@@ -32,12 +32,12 @@ built_holds m image accepted promise chain found holds built exact = (
 )
 
 -- if none can be built
-none_holds : {V : Type 0} {H : V → Type 0} (m : Meaning V H) (image : Reference) (accepted : List (List ℕ)) (promise : Option ResolverPromise) (chain : WrittenChain)
+none_holds : {V : Type 0} {H : V → Type 0} (m : PolicyContext V H) (image : Reference) (accepted : List (List ℕ)) (promise : Option ResolverPromise) (chain : WrittenChain)
     → Builds m.trust chain None → IsTrue false ↔ HoldsUnder m image accepted promise chain
 none_holds m image accepted promise chain none = ((λ h. absurd (cc h)), (λ under. absurd (none under.found under.built)))
 
 -- the checks on the image that was built
-pub checked_holds : {V : Type 0} {H : V → Type 0} {E : Type 0} (m : Meaning V H) (image : Reference) (accepted given : List (List ℕ)) (promise asked : Option ResolverPromise) (chain : WrittenChain) (read : Option VerifiedImage) (found : VerifiedImage) (r : Result Bool E)
+pub checked_holds : {V : Type 0} {H : V → Type 0} {E : Type 0} (m : PolicyContext V H) (image : Reference) (accepted given : List (List ℕ)) (promise asked : Option ResolverPromise) (chain : WrittenChain) (read : Option VerifiedImage) (found : VerifiedImage) (r : Result Bool E)
     → given ≡ accepted → asked ≡ promise → read ≡ Some found → Builds m.trust chain read
     → IfOk r (λ holds. IsTrue holds ↔ Chain m image given asked found) → IfOk r (λ holds. IsTrue holds ↔ HoldsUnder m image accepted promise chain)
 checked_holds m image accepted given promise asked chain read found (Err e) given_is asked_is read_is built exact = tt
@@ -46,13 +46,13 @@ checked_holds m image accepted given promise asked chain read found (Ok holds) g
     (subst (λ (a : List (List ℕ)). IsTrue holds ↔ Chain m image a promise found) given_is
     (subst (λ (p : Option ResolverPromise). IsTrue holds ↔ Chain m image given p found) asked_is exact))
 
-pub not_built : {V : Type 0} {H : V → Type 0} (m : Meaning V H) (image : Reference) (accepted : List (List ℕ)) (promise : Option ResolverPromise) (chain : WrittenChain) (read : Option VerifiedImage)
+pub not_built : {V : Type 0} {H : V → Type 0} (m : PolicyContext V H) (image : Reference) (accepted : List (List ℕ)) (promise : Option ResolverPromise) (chain : WrittenChain) (read : Option VerifiedImage)
     → read ≡ None → Builds m.trust chain read → IsTrue false ↔ HoldsUnder m image accepted promise chain
 not_built m image accepted promise chain read none built = none_holds m image accepted promise chain (rw none at built)
 
 -- ---- the case's policy, whatever a caller's boxes mean
 
-module _ (V W : Type 0) (H : V → Type 0) (I : W → Type 0) (own : Owns V H) (other : Owns W I) (layer : SignatureLayer) where
+module _ (V W : Type 0) (H : V → Type 0) (I : W → Type 0) (own : CustomVerdict V H) (other : CustomVerdict W I) (layer : SignatureLayer) where
   accepts_same : (c : WrittenConstraint) → accepts {V = V} {H = H} own (constraint_by c) layer ≡ accepts {V = W} {H = I} other (constraint_by c) layer
   accepts_same (Annotations asked) = refl
   accepts_same (Email asked) = refl
@@ -78,8 +78,8 @@ count_same V W H I (c ∷ written) = ap (λ n. suc n) (count_same V W H I writte
 abbrev written_policy : {V : Type 0} {H : V → Type 0} → List (List ℕ) → List WrittenConstraint → PullPolicy V H
 written_policy keys written = record { keys = keys; constraints = constraints_by written }
 
-stood_same : (V W : Type 0) (H : V → Type 0) (I : W → Type 0) (own : Owns V H) (other : Owns W I) (keys : List (List ℕ)) (written : List WrittenConstraint) (t : Trust) (d : List ℕ) (layer : SignatureLayer)
-    → StandsFor (meaning (written_policy {V = V} {H = H} keys written) own t) d layer → StandsFor (meaning (written_policy {V = W} {H = I} keys written) other t) d layer
+stood_same : (V W : Type 0) (H : V → Type 0) (I : W → Type 0) (own : CustomVerdict V H) (other : CustomVerdict W I) (keys : List (List ℕ)) (written : List WrittenConstraint) (t : Trust) (d : List ℕ) (layer : SignatureLayer)
+    → StandsFor (policy_context (written_policy {V = V} {H = H} keys written) own t) d layer → StandsFor (policy_context (written_policy {V = W} {H = I} keys written) other t) d layer
 unfolding Accepts Others
 stood_same V W H I own other keys written t d layer h = record {
   layer_of = h.layer_of;
@@ -91,8 +91,8 @@ stood_same V W H I own other keys written t d layer h = record {
   };
 }
 
-chain_same : (V W : Type 0) (H : V → Type 0) (I : W → Type 0) (own : Owns V H) (other : Owns W I) (keys : List (List ℕ)) (written : List WrittenConstraint) (t : Trust) (image : Reference) (accepted : List (List ℕ)) (promise : Option ResolverPromise) (v : VerifiedImage)
-    → Chain (meaning (written_policy {V = V} {H = H} keys written) own t) image accepted promise v → Chain (meaning (written_policy {V = W} {H = I} keys written) other t) image accepted promise v
+chain_same : (V W : Type 0) (H : V → Type 0) (I : W → Type 0) (own : CustomVerdict V H) (other : CustomVerdict W I) (keys : List (List ℕ)) (written : List WrittenConstraint) (t : Trust) (image : Reference) (accepted : List (List ℕ)) (promise : Option ResolverPromise) (v : VerifiedImage)
+    → Chain (policy_context (written_policy {V = V} {H = H} keys written) own t) image accepted promise v → Chain (policy_context (written_policy {V = W} {H = I} keys written) other t) image accepted promise v
 chain_same V W H I own other keys written t image accepted promise v h = record {
   named = h.named;
   asked = h.asked;
@@ -103,8 +103,8 @@ chain_same V W H I own other keys written t image accepted promise v h = record 
   signature = stood_same V W H I own other keys written t v.digest v.signature h.signature;
 }
 
-under_same : (V W : Type 0) (H : V → Type 0) (I : W → Type 0) (own : Owns V H) (other : Owns W I) (keys : List (List ℕ)) (written : List WrittenConstraint) (t : Trust) (image : Reference) (accepted : List (List ℕ)) (promise : Option ResolverPromise) (chain : WrittenChain)
-    → HoldsUnder (meaning (written_policy {V = V} {H = H} keys written) own t) image accepted promise chain → HoldsUnder (meaning (written_policy {V = W} {H = I} keys written) other t) image accepted promise chain
+under_same : (V W : Type 0) (H : V → Type 0) (I : W → Type 0) (own : CustomVerdict V H) (other : CustomVerdict W I) (keys : List (List ℕ)) (written : List WrittenConstraint) (t : Trust) (image : Reference) (accepted : List (List ℕ)) (promise : Option ResolverPromise) (chain : WrittenChain)
+    → HoldsUnder (policy_context (written_policy {V = V} {H = H} keys written) own t) image accepted promise chain → HoldsUnder (policy_context (written_policy {V = W} {H = I} keys written) other t) image accepted promise chain
 under_same V W H I own other keys written t image accepted promise chain h = record {
   found = h.found;
   built = h.built;
@@ -118,26 +118,26 @@ one_reference : {image other : Reference} (case : Case) → reference_of case.re
 one_reference case a b = cc (sym a ∙ b)
 
 -- under the policy of the case
-case_holds : {V : Type 0} {H : V → Type 0} (policy : PullPolicy V H) (own : Owns V H) (input : ChainInput) (image : Reference) (holds : Bool)
+case_holds : {V : Type 0} {H : V → Type 0} (policy : PullPolicy V H) (own : CustomVerdict V H) (input : ChainInput) (image : Reference) (holds : Bool)
     → reference_of input.case.reference ≡ Ok image → policy.keys ≡ input.case.keys → policy.constraints ≡ constraints_by input.case.constraints
-    → IsTrue holds ↔ HoldsUnder (meaning policy own (trust_of input.case)) image input.case.accepted input.case.platform input.chain → IsTrue holds ↔ Holds input
+    → IsTrue holds ↔ HoldsUnder (policy_context policy own (trust_of input.case)) image input.case.accepted input.case.platform input.chain → IsTrue holds ↔ Holds input
 case_holds {V} {H} policy own input image holds reads keys constraints exact =
     let case = input.case in
     let same = policy_is policy case.keys case.constraints keys constraints in
-    let other : Owns ⊥ (λ v. ⊥) = λ box layer. false in (
+    let other : CustomVerdict ⊥ (λ v. ⊥) = λ box layer. false in (
       λ h. record {
         image = image;
         reads = reads;
         under = under_same V ⊥ H (λ v. ⊥) own other case.keys case.constraints (trust_of case) image case.accepted case.platform input.chain
-            (subst (λ (p : PullPolicy V H). HoldsUnder (meaning p own (trust_of case)) image case.accepted case.platform input.chain) same (exact.0 h));
+            (subst (λ (p : PullPolicy V H). HoldsUnder (policy_context p own (trust_of case)) image case.accepted case.platform input.chain) same (exact.0 h));
       },
-      λ h. exact.1 (subst (λ (p : PullPolicy V H). HoldsUnder (meaning p own (trust_of case)) image case.accepted case.platform input.chain) (sym same)
+      λ h. exact.1 (subst (λ (p : PullPolicy V H). HoldsUnder (policy_context p own (trust_of case)) image case.accepted case.platform input.chain) (sym same)
           (under_same ⊥ V (λ v. ⊥) H other own case.keys case.constraints (trust_of case) image case.accepted case.platform input.chain
           (subst (λ (r : Reference). HoldsUnder (meaning_of case) r case.accepted case.platform input.chain) (one_reference case h.reads reads) h.under))),
     )
 
-pub case_answers : {V : Type 0} {H : V → Type 0} {E : Type 0} (policy : PullPolicy V H) (own : Owns V H) (input : ChainInput) (image : Reference) (r : Result Bool E)
+pub case_answers : {V : Type 0} {H : V → Type 0} {E : Type 0} (policy : PullPolicy V H) (own : CustomVerdict V H) (input : ChainInput) (image : Reference) (r : Result Bool E)
     → reference_of input.case.reference ≡ Ok image → policy.keys ≡ input.case.keys → policy.constraints ≡ constraints_by input.case.constraints
-    → IfOk r (λ holds. IsTrue holds ↔ HoldsUnder (meaning policy own (trust_of input.case)) image input.case.accepted input.case.platform input.chain) → IfOk r (λ holds. IsTrue holds ↔ Holds input)
+    → IfOk r (λ holds. IsTrue holds ↔ HoldsUnder (policy_context policy own (trust_of input.case)) image input.case.accepted input.case.platform input.chain) → IfOk r (λ holds. IsTrue holds ↔ Holds input)
 case_answers policy own input image (Err e) reads keys constraints exact = tt
 case_answers policy own input image (Ok holds) reads keys constraints exact = case_holds policy own input image holds reads keys constraints exact

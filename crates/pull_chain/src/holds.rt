@@ -1,7 +1,7 @@
 // Whether a written chain holds.
 ghost use Rattle.std.specs.Prelude.{◌≡◌, ◌↔◌, IfOk, IsOk, IsTrue, Ok, option_copied};
 ghost use Rattle.oci_names.specs.Reference.{reference_of};
-ghost use Rattle.cosign_layers.specs.Standing.{meaning};
+ghost use Rattle.cosign_layers.specs.Satisfying.{policy_context};
 ghost use Rattle.cosign_layers.specs.Trust.{trust};
 ghost use Rattle.cosign_layers.specs.Judge.{vouched_in};
 ghost use Rattle.cosign_layers.specs.Verifier.{valid_in};
@@ -55,7 +55,7 @@ fn promise_of(platform: &Option<PlatformResolver>) -> Option<&ResolverPromise>
 // Whether an image can be built from what is written, and its chain holds under these terms.
 fn holds_under(alloc: Global, terms: &Terms, chain: &WrittenChain) -> Result<bool, AllocError>
     ensures { IfOk result (λ holds. IsTrue holds ↔ HoldsUnder
-        (meaning terms.now.policy (λ b. accepts (b.vtable, b.value))
+        (policy_context terms.now.policy (λ b. accepts (b.vtable, b.value))
         (trust (valid_in terms.now.verifier) (vouched_in terms.now.judge) terms.now.log_keys))
         terms.now.image terms.now.accepted terms.now.platform chain.now) }
 {
@@ -105,7 +105,7 @@ fn terms_in(case: Case, image: Reference, constraints: List<Constraint>) -> Term
 }
 
 // Drops both in a function without other facts, so that each of their many parts is dropped once.
-fn let_go(_terms: Terms, _chain: WrittenChain) {}
+fn drop_both(_terms: Terms, _chain: WrittenChain) {}
 
 /// Returns whether the written chain holds: whether an image can be built from it for which `check_chain` returns true
 /// under the policy, the tables, the keys of logs, the accepted media types and the platform of the case.
@@ -118,6 +118,6 @@ pub fn chain_holds(alloc: Global, input: ChainInput) -> Result<bool, AllocError>
     let ChainInput { case, chain } = input;
     let terms = terms_in(case, image, constraints);
     let held = holds_under(alloc, &terms, &chain);
-    let_go(terms, chain);
+    drop_both(terms, chain);
     held
 }

@@ -1,7 +1,7 @@
 // The input of `check`.
 ghost use Rattle.std.specs.Prelude.{◌≡◌, IfOk, IfSome, None, codes};
 ghost use Rattle.serde_json.specs.View.{view};
-ghost use Rattle.json_tables.specs.Outcomes.{Gives};
+ghost use Rattle.json_tables.specs.Outcomes.{ReadsTo};
 ghost use Rattle.json_tables.specs.Member.{at_name, present, required};
 ghost use Rattle.pull_case.specs.Case.{IsReady};
 ghost use Rattle.pull_case.specs.Members.{unless_absent};
@@ -63,7 +63,7 @@ fn kind_named(text: &str) -> Option<LayerKind>
 }
 
 fn read_kind(value: &Value) -> Result<LayerKind, ReadError>
-    ensures { Gives result (required kind_of (codes "kind") (view value.now)) }
+    ensures { ReadsTo result (required kind_of (codes "kind") (view value.now)) }
 {
     let Some(Value::String(text)) = value.get("kind") else {
         return Err(ReadError::Shape);
@@ -122,7 +122,7 @@ impl Reads for WrittenEntry {
 
 // The manifest that an index led to; `None` if the member is absent.
 fn read_entry(alloc: Global, value: &Value) -> Result<Option<WrittenEntry>, ReadError>
-    ensures { Gives result (at_name (unless_absent None some_entry_of) (codes "entry") (view value.now)) }
+    ensures { ReadsTo result (at_name (unless_absent None some_entry_of) (codes "entry") (view value.now)) }
 {
     match value.get("entry") {
         Some(entry) => Ok(Some(Reads::read_value(alloc, entry)?)),

@@ -1,10 +1,10 @@
 -- The state of a source of bytes in memory.
 use Rattle.std.specs.Prelude.{ℕ, List, Some, drop}
 use Rattle.pull_edge.specs.declared.memory_source.MemorySource.{MemorySource}
-use Rattle.pull_edge.specs.Source.{Spring}
+use Rattle.pull_edge.specs.Source.{SourceState}
 
-abbrev pub spring : MemorySource → Spring
-spring s = record { left = Some (drop s.at s.content); faults = s.faults }
+abbrev pub source_state : MemorySource → SourceState
+source_state s = record { left = Some (drop s.at s.content); faults = s.faults }
 
 -- the number of calls so far, saturating at `u64::MAX`
 abbrev pub calls_of : MemorySource → ℕ

@@ -1,7 +1,7 @@
 -- The state of a source that never fails.
 use Rattle.std.specs.Prelude.{Some, drop}
 use Rattle.pull_edge.specs.declared.plain_source.PlainSource.{PlainSource}
-use Rattle.pull_edge.specs.Source.{Spring}
+use Rattle.pull_edge.specs.Source.{SourceState}
 
-abbrev pub spring : PlainSource → Spring
-spring s = record { left = Some (drop s.at s.content); faults = 0 }
+abbrev pub source_state : PlainSource → SourceState
+source_state s = record { left = Some (drop s.at s.content); faults = 0 }

@@ -4,7 +4,7 @@ ghost use Rattle.std.specs.Prelude.{◌≡◌, ◌-◌, ◌≤◌, length, take,
 pub fn give(content: &[u8], at: usize, room: &mut [u8]) -> usize
     requires { at ≤ length content.now }
     ensures count { result ≡ min (length room.new) (length content.now - at) }
-    ensures front { take result room.new ≡ take result (drop at content.now) }
+    ensures prefix { take result room.new ≡ take result (drop at content.now) }
 {
     let left = &content[at..];
     let count = room.len().min(left.len());

@@ -1,6 +1,6 @@
 ghost use Rattle.std.specs.Prelude.{◌≡◌, ◌≤◌, ◌<◌, length, take, Some, Contains, IfOk, OnOk, OnErr};
 ghost use Rattle.std.specs.Io.KnownBytes.{Keeps, IsAtEnd};
-ghost use Rattle.json_values.specs.Counts.{Rose, Stays, raised};
+ghost use Rattle.json_values.specs.Counts.{Increased, Unchanged, incremented};
 
 use crate::give::give;
 use crate::source::{Failed, Source};
@@ -18,12 +18,12 @@ pub struct MemorySource {
 }
 
 impl MemorySource {
-    ghost use Rattle.pull_edge.specs.MemorySource.{spring, calls_of, failing_of};
+    ghost use Rattle.pull_edge.specs.MemorySource.{source_state, calls_of, failing_of};
 
     /// Creates a source with all of the content left.
     pub fn new(content: Blob, failing: List<u64>) -> MemorySource
-        ensures left { (spring result).left ≡ Some content }
-        ensures faults { (spring result).faults ≡ 0 }
+        ensures left { (source_state result).left ≡ Some content }
+        ensures faults { (source_state result).faults ≡ 0 }
         ensures calls { calls_of result ≡ 0 }
         ensures failing { failing_of result ≡ failing }
     {
@@ -39,23 +39,24 @@ impl MemorySource {
 
 impl Source for MemorySource {
     ghost use Rattle.pull_edge.specs.Source.{Takes};
-    ghost use Rattle.pull_edge.specs.MemorySource.{spring, calls_of, failing_of};
+    ghost use Rattle.pull_edge.specs.MemorySource.{source_state, calls_of, failing_of};
 
-    ghost state = { spring };
+    ghost state = { source_state };
 
     fn take(&mut self, room: &mut [u8]) -> Result<usize, Failed>
-        ensures count { (spring self.old).faults ≤ (spring self.new).faults }
+        ensures count { (source_state self.old).faults ≤ (source_state self.new).faults }
         ensures most { IfOk result (λ n. n ≤ length room.new) }
-        ensures front { IfOk result (λ n. Takes (take n room.new) (spring self.old) (spring self.new)) }
-        ensures end { IfOk result (λ n. n ≡ 0 → 0 < length room.new → IsAtEnd (spring self.new).left) }
-        ensures stays { OnErr result (Keeps (spring self.old).left (spring self.new).left) }
-        ensures fault { OnErr result (Rose (spring self.old).faults (spring self.new).faults) }
-        ensures served { OnOk result (Stays (spring self.old).faults (spring self.new).faults) }
-        ensures raised { OnErr result ((spring self.new).faults ≡ raised (spring self.old).faults) }
-        ensures calls { calls_of self.new ≡ raised (calls_of self.old) }
+        ensures prefix { IfOk result (λ n. Takes (take n room.new) (source_state self.old) (source_state self.new)) }
+        ensures end { IfOk result (λ n. n ≡ 0 → 0 < length room.new → IsAtEnd (source_state self.new).left) }
+        ensures stays { OnErr result (Keeps (source_state self.old).left (source_state self.new).left) }
+        ensures fault { OnErr result (Increased (source_state self.old).faults (source_state self.new).faults) }
+        ensures no_fault { OnOk result (Unchanged (source_state self.old).faults (source_state self.new).faults) }
+        ensures counts_one { OnErr result
+            ((source_state self.new).faults ≡ incremented (source_state self.old).faults) }
+        ensures calls { calls_of self.new ≡ incremented (calls_of self.old) }
         ensures failing { failing_of self.new ≡ failing_of self.old }
         ensures fails { OnErr result (Contains (failing_of self.old) (calls_of self.old)) }
-        ensures calm { OnOk result (Contains (failing_of self.old) (calls_of self.old) → ⊥) }
+        ensures succeeds { OnOk result (Contains (failing_of self.old) (calls_of self.old) → ⊥) }
     {
         let call = self.calls;
         self.calls = call.saturating_add(1);

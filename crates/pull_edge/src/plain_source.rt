@@ -13,20 +13,20 @@ pub struct PlainSource {
 }
 
 impl PlainSource {
-    ghost use Rattle.pull_edge.specs.PlainSource.{spring};
+    ghost use Rattle.pull_edge.specs.PlainSource.{source_state};
 
     /// Creates a source with all of the content left.
     pub fn new(content: Blob) -> PlainSource
-        ensures { (spring result).left ≡ Some content }
+        ensures { (source_state result).left ≡ Some content }
     {
         PlainSource { content, at: 0 }
     }
 }
 
 impl Source for PlainSource {
-    ghost use Rattle.pull_edge.specs.PlainSource.{spring};
+    ghost use Rattle.pull_edge.specs.PlainSource.{source_state};
 
-    ghost state = { spring };
+    ghost state = { source_state };
 
     fn take(&mut self, room: &mut [u8]) -> Result<usize, Failed> {
         let count = give(self.content.as_slice(), self.at, room);

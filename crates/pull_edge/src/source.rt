@@ -1,8 +1,8 @@
 // Byte sources.
 ghost use Rattle.std.specs.Prelude.{◌≡◌, ◌≤◌, ◌<◌, length, take, IfOk, OnOk, OnErr};
 ghost use Rattle.std.specs.Io.KnownBytes.{Keeps, IsAtEnd};
-ghost use Rattle.json_values.specs.Counts.{Rose, Stays};
-ghost use Rattle.pull_edge.specs.Source.{Spring, Takes};
+ghost use Rattle.json_values.specs.Counts.{Increased, Unchanged};
+ghost use Rattle.pull_edge.specs.Source.{SourceState, Takes};
 
 use json_values::Copied;
 use std::alloc::{AllocError, Global};
@@ -22,7 +22,7 @@ impl Copied for Failed {
 /// Returns bytes, piece by piece.
 pub trait Source {
     /// The bytes that are left, if it exposes them, and its fault count.
-    ghost state: { Self → Spring };
+    ghost state: { Self → SourceState };
 
     /// Moves a prefix of the bytes that are left to the start of the room, and returns its length in bytes.
     /// At the end no byte is moved to non-empty room. Returns `Failed` if the source failed: the fault count increases
@@ -30,11 +30,11 @@ pub trait Source {
     fn take(&mut self, room: &mut [u8]) -> Result<usize, Failed>
         ensures count { (state self.old).faults ≤ (state self.new).faults }
         ensures most { IfOk result (λ n. n ≤ length room.new) }
-        ensures front { IfOk result (λ n. Takes (take n room.new) (state self.old) (state self.new)) }
+        ensures prefix { IfOk result (λ n. Takes (take n room.new) (state self.old) (state self.new)) }
         ensures end { IfOk result (λ n. n ≡ 0 → 0 < length room.new → IsAtEnd (state self.new).left) }
         ensures stays { OnErr result (Keeps (state self.old).left (state self.new).left) }
-        ensures fault { OnErr result (Rose (state self.old).faults (state self.new).faults) }
-        ensures served { OnOk result (Stays (state self.old).faults (state self.new).faults) };
+        ensures fault { OnErr result (Increased (state self.old).faults (state self.new).faults) }
+        ensures no_fault { OnOk result (Unchanged (state self.old).faults (state self.new).faults) };
 
     /// Returns the number of failures so far, saturating at `u64::MAX`.
     fn faults(&self) -> u64

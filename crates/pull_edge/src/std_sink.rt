@@ -12,20 +12,20 @@ pub struct StdSink<W> {
 }
 
 impl<W: Write> StdSink<W> {
-    ghost use Rattle.pull_edge.specs.StdSink.{tray};
+    ghost use Rattle.pull_edge.specs.StdSink.{sink_state};
 
     /// Creates a sink without faults.
     pub fn new(writer: W) -> StdSink<W>
-        ensures { (tray result).faults ≡ 0 }
+        ensures { (sink_state result).faults ≡ 0 }
     {
         StdSink { writer, faults: 0 }
     }
 }
 
 impl<W: Write> Sink for StdSink<W> {
-    ghost use Rattle.pull_edge.specs.StdSink.{tray};
+    ghost use Rattle.pull_edge.specs.StdSink.{sink_state};
 
-    ghost state = { tray };
+    ghost state = { sink_state };
 
     fn put(&mut self, piece: &[u8]) -> Result<usize, SinkError> {
         match self.writer.write(piece) {

@@ -11,21 +11,21 @@ pub struct StdSource<R> {
 }
 
 impl<R: Read> StdSource<R> {
-    ghost use Rattle.pull_edge.specs.StdSource.{spring};
+    ghost use Rattle.pull_edge.specs.StdSource.{source_state};
 
     /// Creates a source without faults.
     pub fn new(reader: R) -> StdSource<R>
-        ensures left { (spring R.remaining result).left ≡ R.remaining reader }
-        ensures faults { (spring R.remaining result).faults ≡ 0 }
+        ensures left { (source_state R.remaining result).left ≡ R.remaining reader }
+        ensures faults { (source_state R.remaining result).faults ≡ 0 }
     {
         StdSource { reader, faults: 0 }
     }
 }
 
 impl<R: Read> Source for StdSource<R> {
-    ghost use Rattle.pull_edge.specs.StdSource.{spring};
+    ghost use Rattle.pull_edge.specs.StdSource.{source_state};
 
-    ghost state = { spring R.remaining };
+    ghost state = { source_state R.remaining };
 
     fn take(&mut self, room: &mut [u8]) -> Result<usize, Failed> {
         match self.reader.read(room) {

@@ -12,7 +12,7 @@ use Rattle.engine_terms.specs.Contexts.{within}
 use Rattle.oci_link.specs.declared.shelf.Shelf.{Shelf}
 use Rattle.shelf_laws.proofs.Tokens.{fresh_settled}
 use Rattle.sig_calls.specs.Clients.{Kept, Client}
-use Rattle.cosign_layers.specs.Standing.{Owns, meaning, stands}
+use Rattle.cosign_layers.specs.Satisfying.{CustomVerdict, policy_context, satisfies_policy}
 use Rattle.cosign_layers.specs.Trust.{trust}
 use Rattle.cosign_layers.specs.Verifier.{valid_in}
 use Rattle.cosign_layers.specs.declared.policy.PullPolicy.{PullPolicy}
@@ -45,18 +45,18 @@ table_is : (n : ℕ) (table : TableVerifier) → table.rows ≡ signed_row n ∷
 table_is n table rows = rw (← rows) refl
 
 -- whatever a box means
-row_same : {V : Type 0} {H : V → Type 0} (own : Owns V H) (n : ℕ) → verified (meaning_with own n) generated_context generated_reference Anonymous generated_types ≡ generated_row n
-unfolding verified stands
+row_same : {V : Type 0} {H : V → Type 0} (own : CustomVerdict V H) (n : ℕ) → verified (meaning_with own n) generated_context generated_reference Anonymous generated_types ≡ generated_row n
+unfolding verified satisfies_policy
 row_same own n = refl
 
-module _ {V : Type 0} {H : V → Type 0} (own : Owns V H) (n : ℕ) (policy : PullPolicy V H) (table : TableVerifier) (logs : FinMap by_bytes (List ℕ)) (client : Client) (image : Reference) (accepted : List (List ℕ))
+module _ {V : Type 0} {H : V → Type 0} (own : CustomVerdict V H) (n : ℕ) (policy : PullPolicy V H) (table : TableVerifier) (logs : FinMap by_bytes (List ℕ)) (client : Client) (image : Reference) (accepted : List (List ℕ))
     (keys_are : policy.keys ≡ codes "k1" ∷ []) (constraints_are : policy.constraints ≡ any_layer ∷ []) (rows_are : table.rows ≡ signed_row n ∷ []) (logs_are : logs ≡ empty) (client_is : client ≡ record { settings = generated_settings; kept = fresh }) (image_is : image ≡ generated_reference) (accepted_are : accepted ≡ generated_types) where
-  pub ran : {old new : Link} {l : Kept} {r : Result VerifiedImage PullRefusal} → Meets is_memory (verified (meaning policy own (trust (valid_in table) (λ evidence. None) logs)) (within client.settings 100) image Anonymous accepted) old new client.kept l r → PullsGenerated n old new r
+  pub ran : {old new : Link} {l : Kept} {r : Result VerifiedImage PullRefusal} → Meets is_memory (verified (policy_context policy own (trust (valid_in table) (λ evidence. None) logs)) (within client.settings 100) image Anonymous accepted) old new client.kept l r → PullsGenerated n old new r
   ran {old} {new} {l} {r} met =
       (l, subst (λ row. Meets is_memory row old new fresh l r) (row_same own n) (rw (policy_is policy keys_are constraints_are, table_is n table rows_are, logs_are, client_is, image_is, accepted_are) at met))
 
   pub gives_image : {old : Link} (r : Result VerifiedImage PullRefusal)
-      → ((shelf : Shelf) → AnswersFrom shelf old → IsSettled client.settings image Anonymous shelf client.kept → ValidShelf (meaning policy own (trust (valid_in table) (λ evidence. None) logs)) client.settings image Anonymous accepted shelf → OkOrMemory r)
+      → ((shelf : Shelf) → AnswersFrom shelf old → IsSettled client.settings image Anonymous shelf client.kept → ValidShelf (policy_context policy own (trust (valid_in table) (λ evidence. None) logs)) client.settings image Anonymous accepted shelf → OkOrMemory r)
       → IsCount n → HasTwoDigests n → AnswersFrom (generated_shelf n) old → OkOrMemory r
   gives_image r completes count two from =
       (rw (policy_is policy keys_are constraints_are, table_is n table rows_are, logs_are, client_is, image_is, accepted_are) at completes) (generated_shelf n) from (record { memory = fresh_settled _ _ _ _; answers = tt }) (valid own n count.0 count.1 two)

@@ -30,18 +30,18 @@ use Rattle.oci_descriptors.specs.declared.descriptor.OciDescriptor.{OciDescripto
 use Rattle.oci_transport.specs.Urls.{request_url}
 use Rattle.oci_link.specs.Leads.{entry_leads, redirects_lead}
 use Rattle.engine_rows.specs.Image.{layer_of}
-use Rattle.shelf_laws.specs.Home.{IsWrittenPlainly, front_of}
+use Rattle.shelf_laws.specs.IsHosted.{IsWrittenPlainly, base_of}
 use Rattle.shelf_laws.specs.Shelves.{layer_on, layers_on}
 use Rattle.shelf_laws.proofs.DigestTags.{dashed_text}
 use Rattle.serde_json.specs.Data.{null}
 use Rattle.cosign_layers.specs.Constraint.{accepts, has_text_member}
-use Rattle.cosign_layers.specs.Standing.{Meaning, Owns, StandsFor, Supports, Signed, text_of}
+use Rattle.cosign_layers.specs.Satisfying.{PolicyContext, CustomVerdict, StandsFor, SatisfiesPolicy, Signed, text_of}
 use Rattle.cosign_layers.specs.declared.constraint.Constraint.{Constraint}
 use Rattle.cosign_layers.specs.declared.layer.SignatureLayer.{SignatureLayer}
 use Rattle.cosign_layers.proofs.Layers.{gives}
 use Rattle.cosign_rows.specs.Part.{named_layer, read_layer}
 use Rattle.cosign_rows.specs.References.{signature_tag}
-use Rattle.cosign_rows.specs.Shelves.{IsAsked, ReadsStanding, SignedByTag, ValidShelf, read_on, digest_on}
+use Rattle.cosign_rows.specs.Shelves.{IsAsked, HasSatisfyingLayer, SignedByTag, ValidShelf, read_on, digest_on}
 use Rattle.generated_image.specs.Shelf.{tag_for, payload_of, generated_shelf, HasTwoDigests}
 use Rattle.generated_image.specs.Texts.{sha256_text, image_text, payload_type, signatures_text}
 use Rattle.generated_image.proofs.Layer.{input_of, layer_for, layer_is, spells}
@@ -111,13 +111,13 @@ read_is n =
     ∙ ap (λ b. read_layer (generated_trust n) d x (cond b (Some (layer_of x p)) None)) (names_itself p)
     ∙ layer_is (generated_trust n) (image_text n)
 
-no_annotations : {V : Type 0} {H : V → Type 0} (own : Owns V H) (image : List ℕ) → IsTrue (accepts own any_layer (layer_for image))
+no_annotations : {V : Type 0} {H : V → Type 0} (own : CustomVerdict V H) (image : List ℕ) → IsTrue (accepts own any_layer (layer_for image))
 no_annotations own image = ap (list_all (has_text_member null)) (no_entries (List ℕ))
 
-stands : {V : Type 0} {H : V → Type 0} (own : Owns V H) (n : ℕ) → StandsFor (meaning_with own n) (sha256_text (image_text n)) (layer_for (image_text n))
+stands : {V : Type 0} {H : V → Type 0} (own : CustomVerdict V H) (n : ℕ) → StandsFor (meaning_with own n) (sha256_text (image_text n)) (layer_for (image_text n))
 stands {V} {H} own n =
     let layer = layer_for (image_text n) in
-    let m : Meaning V H = meaning_with own n in
+    let m : PolicyContext V H = meaning_with own n in
     let g = gives (generated_trust n) (sha256_text (image_text n)) (input_of (image_text n)) (Ok layer) (layer_is (generated_trust n) (image_text n)) in
     record {
       layer_of = g.layer_of;
@@ -129,7 +129,7 @@ stands {V} {H} own n =
       };
     }
 
-signed : {V : Type 0} {H : V → Type 0} (own : Owns V H) (n : ℕ) → n ≤ 1000 → HasTwoDigests n → SignedByTag (meaning_with own n) (sha256_text (image_text n)) (generated_shelf n)
+signed : {V : Type 0} {H : V → Type 0} (own : CustomVerdict V H) (n : ℕ) → n ≤ 1000 → HasTwoDigests n → SignedByTag (meaning_with own n) (sha256_text (image_text n)) (generated_shelf n)
 signed own n small two = record {
   signatures = sha256_text (signatures_text (payload_of n));
   tagged = ap (λ (t : List ℕ). get (generated_shelf n).tags (t ++ codes ".sig")) (dashed_text Sha256 (image_text n)) ∙ signatures_tagged n;
@@ -145,7 +145,7 @@ signed own n small two = record {
   };
 }
 
-pub valid : {V : Type 0} {H : V → Type 0} (own : Owns V H) (n : ℕ) → 1 ≤ n → n ≤ 1000 → HasTwoDigests n → ValidShelf (meaning_with own n) generated_settings generated_reference Anonymous generated_types (generated_shelf n)
+pub valid : {V : Type 0} {H : V → Type 0} (own : CustomVerdict V H) (n : ℕ) → 1 ≤ n → n ≤ 1000 → HasTwoDigests n → ValidShelf (meaning_with own n) generated_settings generated_reference Anonymous generated_types (generated_shelf n)
 unfolding signed
 valid own n one small two = record {
   asked = asked n;

@@ -2,7 +2,7 @@
 use Rattle.std.specs.Prelude.{ℕ, false, List, [], ◌∷◌, Some, None, codes, ◌≤◌, Result, IfErr}
 use Rattle.std.specs.FinMap as map
 use Rattle.oci_names.specs.declared.reference.Reference.{Reference}
-use Rattle.oci_auth.specs.Memory.{fresh as nothing_kept}
+use Rattle.oci_auth.specs.AuthState.{fresh as nothing_kept}
 use Rattle.oci_auth.specs.declared.auth.RegistryAuth.TheVariants.{Anonymous}
 use Rattle.oci_protocol.specs.Runs.{Meets, Told}
 use Rattle.oci_transport.specs.Link.{Link}
@@ -10,7 +10,7 @@ use Rattle.engine_terms.specs.Contexts.{Context, within}
 use Rattle.engine_terms.specs.declared.settings.ClientProtocol.TheVariants.{Http}
 use Rattle.engine_terms.specs.declared.settings.Settings.{Settings}
 use Rattle.sig_calls.specs.Clients.{Kept}
-use Rattle.cosign_layers.specs.Standing.{Meaning, Owns, meaning}
+use Rattle.cosign_layers.specs.Satisfying.{PolicyContext, CustomVerdict, policy_context}
 use Rattle.cosign_layers.specs.Trust.{Trust, trust}
 use Rattle.cosign_layers.specs.Verifier.{valid_in}
 use Rattle.cosign_layers.specs.declared.constraint.Constraint.{Constraint}
@@ -19,7 +19,7 @@ use Rattle.cosign_layers.specs.declared.policy.PullPolicy.{PullPolicy}
 use Rattle.cosign_layers.specs.declared.verifier.SignedRow.{SignedRow}
 use Rattle.cosign_chain.specs.declared.image.VerifiedImage.{VerifiedImage}
 use Rattle.cosign_rows.specs.Causes.{PullCause}
-use Rattle.cosign_rows.specs.Points.{point}
+use Rattle.cosign_rows.specs.Snapshots.{snapshot}
 use Rattle.cosign_rows.specs.Refusal.{is_memory}
 use Rattle.cosign_rows.specs.Verified.{Whole, verified}
 use Rattle.cosign_rows.specs.declared.refusal.PullRefusal.{PullRefusal}
@@ -75,10 +75,10 @@ abbrev pub generated_trust : ℕ → Trust
 generated_trust n = trust (valid_in (record { rows = signed_row n ∷ [] })) (λ evidence. None) map.empty
 
 -- whatever a caller's box accepts: the policy has none
-abbrev pub meaning_with : {V : Type 0} {H : V → Type 0} → Owns V H → ℕ → Meaning V H
-meaning_with own n = meaning generated_policy own (generated_trust n)
+abbrev pub meaning_with : {V : Type 0} {H : V → Type 0} → CustomVerdict V H → ℕ → PolicyContext V H
+meaning_with own n = policy_context generated_policy own (generated_trust n)
 
-abbrev pub generated_meaning : ℕ → Meaning ⊥ (λ v. ⊥)
+abbrev pub generated_meaning : ℕ → PolicyContext ⊥ (λ v. ⊥)
 generated_meaning n = meaning_with (λ box layer. false) n
 
 -- ---- the pull
@@ -94,7 +94,7 @@ PullsGenerated n old new result = (kept : Kept) × Meets is_memory (generated_ro
 abbrev pub IsCaused : ℕ → Link → Link → Result VerifiedImage PullRefusal → Type 0
 IsCaused n old new result = (kept : Kept) × IfErr result (λ e. Told
     (λ c. PullCause (generated_meaning n) generated_context generated_reference Anonymous generated_types
-    (point fresh old.faults) c (point kept new.faults) e) old new)
+    (snapshot fresh old.faults) c (snapshot kept new.faults) e) old new)
 
 abbrev pub IsCount : ℕ → Type 0
 IsCount n = (1 ≤ n) × (n ≤ 1000)

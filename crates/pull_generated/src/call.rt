@@ -61,7 +61,7 @@ pub fn pull_generated<T: Transport>(
     ensures links { IfOk result (λ v. Links generated_reference generated_types v) }
     ensures causes { IsCaused layers (T.state transport.old) (T.state transport.new) result }
     ensures fault { FaultCounted (T.state transport.old) (T.state transport.new) result }
-    ensures no_sink { NoSinkFault result }
+    ensures no_sink_fault { NoSinkFault result }
 {
     pulled(alloc, layers, transport)
 }

@@ -6,10 +6,10 @@ use Rattle.cosign_chain.specs.declared.image.VerifiedImage.{VerifiedImage}
 use Rattle.cosign_rows.specs.declared.refusal.PullRefusal.{PullRefusal}
 use Rattle.live_host.specs.Heads.{begin_head}
 use Rattle.live_host.specs.HostErrors.{HostCause}
-use Rattle.live_host.specs.Wire.{Wire, Hears, Tells}
+use Rattle.live_host.specs.Wire.{Wire, ReceivesFrame, SendsFrame}
 use Rattle.live_host.specs.declared.streams.HostError.{HostError}
 use Rattle.live_host.specs.declared.streams.HostError.TheVariants as host
-use Rattle.pull_live.specs.Live.{Begins, Ends, Live, Says}
+use Rattle.pull_live.specs.Live.{Begins, Ends, Live, StatusMeans}
 use Rattle.pull_live.specs.Parts.{BeginCause, Delivers, ReadsSettings}
 use Rattle.pull_live.specs.Status.{status_of}
 use Rattle.pull_live.specs.declared.settings.LiveSettings.{LiveSettings}
@@ -44,7 +44,7 @@ passed_begin (Ok x) s old new cause is = tt
 passed_begin (Err t) s old new cause is = subst (λ y. BeginCause y old new) (sym is.1) cause
 
 -- a frame that is not settings
-pub unread_begins : (s : Status) (d : Data) (old between new : Wire) → Tells begin_head [] old between → Hears d between new → ReadsSettings (Err s) d → BeginCause s old new
+pub unread_begins : (s : Status) (d : Data) (old between new : Wire) → SendsFrame begin_head [] old between → ReceivesFrame d between new → ReadsSettings (Err s) d → BeginCause s old new
 unread_begins status.Pulled d old between new told heard reads = absurd reads
 unread_begins status.Refused d old between new told heard reads = absurd reads
 unread_begins status.UnreadableSettings d old between new told heard reads = record { between = between; told = told; frame = d; heard = heard; unread = reads }
@@ -54,7 +54,7 @@ unread_begins status.WantOfMemory d old between new told heard reads = tt
 
 -- ---- the whole pull
 
-pub begun_says : (s : Status) (settings : LiveSettings) (old begun new : Wire) → Begins settings old begun → Ends (λ r. Live settings r begun new) s new → Says s old new
+pub begun_says : (s : Status) (settings : LiveSettings) (old begun new : Wire) → Begins settings old begun → Ends (λ r. Live settings r begun new) s new → StatusMeans s old new
 begun_says status.Pulled settings old begun new starts h = (h.0, (settings, begun, starts, h.1))
 begun_says status.Refused settings old begun new starts h = (h.0, h.1, (settings, begun, starts, h.2))
 begun_says status.UnreadableSettings settings old begun new starts h = absurd h
@@ -62,7 +62,7 @@ begun_says status.HostBroken settings old begun new starts h = h
 begun_says status.SinkFault settings old begun new starts h = h
 begun_says status.WantOfMemory settings old begun new starts h = tt
 
-pub unbegun_says : (s : Status) (old new : Wire) → BeginCause s old new → Says s old new
+pub unbegun_says : (s : Status) (old new : Wire) → BeginCause s old new → StatusMeans s old new
 unbegun_says status.Pulled old new h = absurd h
 unbegun_says status.Refused old new h = absurd h
 unbegun_says status.UnreadableSettings old new h = h

@@ -11,27 +11,27 @@ use Rattle.oci_transport.specs.declared.message.Exchange.{Exchange}
 use Rattle.engine_terms.specs.Contexts.{Context}
 use Rattle.sig_calls.specs.Clients.{Kept}
 use Rattle.cosign_layers.specs.Constraint.{accepts}
-use Rattle.cosign_layers.specs.Standing.{Owns, StandsFor, meaning}
+use Rattle.cosign_layers.specs.Satisfying.{CustomVerdict, StandsFor, policy_context}
 use Rattle.cosign_layers.specs.Trust.{Trust}
 use Rattle.cosign_layers.specs.declared.layer.SignatureLayer.{SignatureLayer}
 use Rattle.cosign_layers.specs.declared.policy.PullPolicy.{PullPolicy}
 use Rattle.cosign_chain.specs.Chain.{Chain}
 use Rattle.cosign_chain.specs.declared.image.VerifiedImage.{VerifiedImage}
 use Rattle.cosign_rows.specs.Causes.{PullCause}
-use Rattle.cosign_rows.specs.Points.{Point}
+use Rattle.cosign_rows.specs.Snapshots.{Snapshot}
 use Rattle.cosign_rows.specs.Verified.{stands_by}
 use Rattle.cosign_rows.specs.declared.refusal.PullRefusal.{PullRefusal}
 use Rattle.cosign_rows.specs.declared.refusal.PullRefusal.TheVariants as refusal
 use Rattle.live_host.specs.Wire.{Wire}
 use Rattle.pull_case.specs.Policy.{constraints_by}
 use Rattle.pull_case.specs.declared.constraint.WrittenConstraint.{WrittenConstraint}
-use Rattle.pull_live.specs.Shows.{Founded}
+use Rattle.pull_live.specs.Justified.{Justified}
 use Rattle.pull_case.proofs.Written.{accepts_same, no_item_same, stands_same}
 
 abbrev policy_by : {V : Type 0} {H : V → Type 0} → List (List ℕ) → List WrittenConstraint → PullPolicy V H
 policy_by keys written = record { keys = keys; constraints = constraints_by written }
 
-module _ (V W : Type 0) (H : V → Type 0) (I : W → Type 0) (own : Owns V H) (other : Owns W I) where
+module _ (V W : Type 0) (H : V → Type 0) (I : W → Type 0) (own : CustomVerdict V H) (other : CustomVerdict W I) where
   length_same : (written : List WrittenConstraint) → length (constraints_by {V = V} {H = H} written) ≡ length (constraints_by {V = W} {H = I} written)
   length_same [] = refl
   length_same (c ∷ written) = ap (λ n. suc n) (length_same written)
@@ -44,7 +44,7 @@ module _ (V W : Type 0) (H : V → Type 0) (I : W → Type 0) (own : Owns V H) (
       (all_as layer written (All-tail (λ c. IsTrue (accepts {V = V} {H = H} own c layer)) _ (constraints_by written) h))
 
   stands_as : (keys : List (List ℕ)) (written : List WrittenConstraint) (trusted : Trust) (d : List ℕ) (layer : SignatureLayer)
-      → StandsFor (meaning (policy_by {V = V} {H = H} keys written) own trusted) d layer → StandsFor (meaning (policy_by {V = W} {H = I} keys written) other trusted) d layer
+      → StandsFor (policy_context (policy_by {V = V} {H = H} keys written) own trusted) d layer → StandsFor (policy_context (policy_by {V = W} {H = I} keys written) other trusted) d layer
   stands_as keys written trusted d layer h = record {
     layer_of = h.layer_of;
     is_named = h.is_named;
@@ -56,7 +56,7 @@ module _ (V W : Type 0) (H : V → Type 0) (I : W → Type 0) (own : Owns V H) (
   }
 
   chain_as : (keys : List (List ℕ)) (written : List WrittenConstraint) (trusted : Trust) (image : Reference) (accepted : List (List ℕ)) (promise : Option ResolverPromise) (v : VerifiedImage)
-      → Chain (meaning (policy_by {V = V} {H = H} keys written) own trusted) image accepted promise v → Chain (meaning (policy_by {V = W} {H = I} keys written) other trusted) image accepted promise v
+      → Chain (policy_context (policy_by {V = V} {H = H} keys written) own trusted) image accepted promise v → Chain (policy_context (policy_by {V = W} {H = I} keys written) other trusted) image accepted promise v
   chain_as keys written trusted image accepted promise v h = record {
     named = h.named;
     asked = h.asked;
@@ -67,11 +67,11 @@ module _ (V W : Type 0) (H : V → Type 0) (I : W → Type 0) (own : Owns V H) (
     signature = stands_as keys written trusted v.digest v.signature h.signature;
   }
 
-  stands_is : (keys : List (List ℕ)) (written : List WrittenConstraint) (trusted : Trust) → stands_by (meaning (policy_by {V = V} {H = H} keys written) own trusted) ≡ stands_by (meaning (policy_by {V = W} {H = I} keys written) other trusted)
+  stands_is : (keys : List (List ℕ)) (written : List WrittenConstraint) (trusted : Trust) → stands_by (policy_context (policy_by {V = V} {H = H} keys written) own trusted) ≡ stands_by (policy_context (policy_by {V = W} {H = I} keys written) other trusted)
   stands_is keys written trusted = fun_ext (λ layer. stands_same V W H I own other keys written trusted.valid layer)
 
-  cause_as : (keys : List (List ℕ)) (written : List WrittenConstraint) (trusted : Trust) (s : Context) (image : Reference) (a : RegistryAuth) (accepted : List (List ℕ)) (start : Point) (c : List Exchange) (end : Point) (e : PullRefusal)
-      → PullCause (meaning (policy_by {V = V} {H = H} keys written) own trusted) s image a accepted start c end e → PullCause (meaning (policy_by {V = W} {H = I} keys written) other trusted) s image a accepted start c end e
+  cause_as : (keys : List (List ℕ)) (written : List WrittenConstraint) (trusted : Trust) (s : Context) (image : Reference) (a : RegistryAuth) (accepted : List (List ℕ)) (start : Snapshot) (c : List Exchange) (end : Snapshot) (e : PullRefusal)
+      → PullCause (policy_context (policy_by {V = V} {H = H} keys written) own trusted) s image a accepted start c end e → PullCause (policy_context (policy_by {V = W} {H = I} keys written) other trusted) s image a accepted start c end e
   cause_as keys written trusted s image a accepted start c end refusal.EmptyPolicy h = (sym (no_item_same V W H I written) ∙ h.0, h.1)
   cause_as keys written trusted s image a accepted start c end (refusal.OciReferenceNotValidError text) h = h
   cause_as keys written trusted s image a accepted start c end (refusal.RegistryFetchManifestError name e) h = h
@@ -93,6 +93,6 @@ module _ (V W : Type 0) (H : V → Type 0) (I : W → Type 0) (own : Owns V H) (
   cause_as keys written trusted s image a accepted start c end refusal.WantOfMemory h = tt
 
   pub founded_as : (keys : List (List ℕ)) (written : List WrittenConstraint) (trusted : Trust) (s : Context) (image : Reference) (a : RegistryAuth) (accepted : List (List ℕ)) (k l : Kept) (r : Result VerifiedImage PullRefusal) (old new : Wire)
-      → Founded (meaning (policy_by {V = V} {H = H} keys written) own trusted) s image a accepted k l r old new → Founded (meaning (policy_by {V = W} {H = I} keys written) other trusted) s image a accepted k l r old new
+      → Justified (policy_context (policy_by {V = V} {H = H} keys written) own trusted) s image a accepted k l r old new → Justified (policy_context (policy_by {V = W} {H = I} keys written) other trusted) s image a accepted k l r old new
   founded_as keys written trusted s image a accepted k l (Ok v) old new h = (chain_as keys written trusted image accepted s.settings.platform_resolver v h.0, h.1)
   founded_as keys written trusted s image a accepted k l (Err e) old new h = (h.0, (h.1.0, h.1.1, cause_as keys written trusted s image a accepted _ h.1.0 _ e h.1.2))

@@ -16,7 +16,7 @@ use Rattle.pull_setup.specs.Clients.{config_by}
 use Rattle.pull_setup.specs.declared.asked.Asked.{Asked}
 use Rattle.pull_live.specs.Opening.{client_in, Opens}
 use Rattle.pull_live.specs.declared.opening.Opened.{Opened}
-use Rattle.cosign_layers.specs.Standing.{Owns, meaning}
+use Rattle.cosign_layers.specs.Satisfying.{CustomVerdict, policy_context}
 use Rattle.cosign_layers.specs.declared.layer.SignatureLayer.{SignatureLayer}
 use Rattle.cosign_layers.specs.declared.policy.PullPolicy.{PullPolicy}
 use Rattle.cosign_chain.specs.declared.image.VerifiedImage.{VerifiedImage}
@@ -28,9 +28,9 @@ use Rattle.live_host.specs.Questions.{WereAsked}
 use Rattle.live_host.specs.Wire.{Wire}
 use Rattle.live_host.specs.declared.answers.Answers.{Answers}
 use Rattle.pull_live.specs.Live.{Ends, Live}
-use Rattle.pull_live.specs.Parts.{Delivers, Finished, Prepares, Showing, Talked, searched_by}
+use Rattle.pull_live.specs.Parts.{Delivers, Finished, Prepares, Showing, SearchAskPull, searched_by}
 use Rattle.pull_live.specs.Pulls.{Collects, Transfer, context_of, meaning_of, pull_row, search_row, trust_of}
-use Rattle.pull_live.specs.Shows.{Confined, Founded}
+use Rattle.pull_live.specs.Justified.{Confined, Justified}
 use Rattle.pull_live.specs.Terms.{PulledBy, PullShows, TermsConfined, row_for}
 use Rattle.pull_live.specs.declared.live.Prepared.{Prepared}
 use Rattle.pull_live.specs.declared.pulls.Terms.{Terms}
@@ -66,7 +66,7 @@ finished row Shows blobs k l old pulled new (Ok v) status.WantOfMemory pull show
 finished row Shows blobs k l old pulled new (Err e) status.WantOfMemory pull shows given = tt
 
 -- the pull by these terms is that of the settings
-row_is : {V : Type 0} {H : V → Type 0} (own : Owns V H) (settings : LiveSettings) (p : Prepared V H) (answers : Answers) → Prepares settings p
+row_is : {V : Type 0} {H : V → Type 0} (own : CustomVerdict V H) (settings : LiveSettings) (p : Prepared V H) (answers : Answers) → Prepares settings p
     → row_for own p.terms answers p.client.rekor_pub_keys (client_state p.client).settings ≡ pull_row settings answers (reference_in p.terms.image)
 row_is own settings p answers (reads, auth, accepted, moment, keys, constraints, client, logs) =
     rw (client, logs, moment, auth, accepted) (row_same p.terms.policy own settings answers (reference_in p.terms.image) (policy_is p.terms.policy settings keys constraints))
@@ -76,13 +76,13 @@ search_is : {V : Type 0} {H : V → Type 0} (settings : LiveSettings) (p : Prepa
 search_is settings p (reads, auth, accepted, moment, keys, constraints, client, logs) = rw (client, logs, moment, auth) refl
 
 -- the properties of the pull by these terms are those of the pull by the settings
-shows_are : {V : Type 0} {H : V → Type 0} (own : Owns V H) (settings : LiveSettings) (p : Prepared V H) (answers : Answers) (k l : Kept) (r : Result VerifiedImage PullRefusal) (old new : Wire) → Prepares settings p
+shows_are : {V : Type 0} {H : V → Type 0} (own : CustomVerdict V H) (settings : LiveSettings) (p : Prepared V H) (answers : Answers) (k l : Kept) (r : Result VerifiedImage PullRefusal) (old new : Wire) → Prepares settings p
     → PullShows own p.terms answers p.client.rekor_pub_keys (client_state p.client).settings k l r old new
-    → Founded (meaning_of settings answers) (context_of settings) (reference_in p.terms.image) settings.auth settings.accepted k l r old new × Confined (context_of settings) (reference_in p.terms.image) settings.auth k l old new
+    → Justified (meaning_of settings answers) (context_of settings) (reference_in p.terms.image) settings.auth settings.accepted k l r old new × Confined (context_of settings) (reference_in p.terms.image) settings.auth k l old new
 shows_are {V} {H} own settings p answers k l r old new (reads, auth, accepted, moment, keys, constraints, client, logs) shows =
     let here = rw (client, logs, moment, auth, accepted) at shows in (
       founded_as V ⊥ H (λ v. ⊥) own (λ box layer. false) settings.keys settings.constraints (trust_of settings answers) (context_of settings) (reference_in p.terms.image) settings.auth settings.accepted k l r old new
-          (subst (λ (policy : PullPolicy V H). Founded (meaning policy own (trust_of settings answers)) (context_of settings) (reference_in p.terms.image) settings.auth settings.accepted k l r old new) (policy_is p.terms.policy settings keys constraints) here.0),
+          (subst (λ (policy : PullPolicy V H). Justified (policy_context policy own (trust_of settings answers)) (context_of settings) (reference_in p.terms.image) settings.auth settings.accepted k l r old new) (policy_is p.terms.policy settings keys constraints) here.0),
       here.1,
     )
 
@@ -118,8 +118,8 @@ prepares_opened asked settings o constraints usual opens reads auth written = (
 )
 
 -- all of it, by the settings
-pub live : {V : Type 0} {H : V → Type 0} (own : Owns V H) (settings : LiveSettings) (p : Prepared V H) (old new : Wire) (r : Result VerifiedImage PullRefusal) → Prepares settings p
-    → Talked (searched_by p.terms p.client.rekor_pub_keys (client_state p.client).settings) (TermsConfined p.terms (client_state p.client).settings)
+pub live : {V : Type 0} {H : V → Type 0} (own : CustomVerdict V H) (settings : LiveSettings) (p : Prepared V H) (old new : Wire) (r : Result VerifiedImage PullRefusal) → Prepares settings p
+    → SearchAskPull (searched_by p.terms p.client.rekor_pub_keys (client_state p.client).settings) (TermsConfined p.terms (client_state p.client).settings)
     (λ answers. row_for own p.terms answers p.client.rekor_pub_keys (client_state p.client).settings)
     (λ answers. PullShows own p.terms answers p.client.rekor_pub_keys (client_state p.client).settings)
     settings.blobs (client_state p.client).kept old new r
@@ -149,13 +149,13 @@ live own settings p old new r prepares talked =
     }
 
 -- a search, questions, and a pull whose client knows the same logs and has the same settings as before
-pub talked : {V : Type 0} {H : V → Type 0} (own : Owns V H) (terms : Terms V H) (search : Row TrustedLayers) (Stays : Kept → Kept → Wire → Wire → Type 0) (blobs : Bool) (k kept : Kept) (old searched_at asked new : Wire) (layers : List SignatureLayer) (answers : Answers)
+pub talked : {V : Type 0} {H : V → Type 0} (own : CustomVerdict V H) (terms : Terms V H) (search : Row TrustedLayers) (Stays : Kept → Kept → Wire → Wire → Type 0) (blobs : Bool) (k kept : Kept) (old searched_at asked new : Wire) (layers : List SignatureLayer) (answers : Answers)
     (logs same_logs : FinMap by_bytes (List ℕ)) (s same : Settings) (e : Status)
     → Collects search old searched_at k kept layers → Stays k kept old searched_at → WereAsked answers.list searched_at asked → same_logs ≡ logs → same ≡ s
     → Ends (Finished (row_for own terms answers same_logs same) (PullShows own terms answers same_logs same) blobs kept asked new) e new
-    → Ends (Talked search Stays (λ a. row_for own terms a logs s) (λ a. PullShows own terms a logs s) blobs k old new) e new
+    → Ends (SearchAskPull search Stays (λ a. row_for own terms a logs s) (λ a. PullShows own terms a logs s) blobs k old new) e new
 talked own terms search Stays blobs k kept old searched_at asked new layers answers logs same_logs s same e collects stays questions is_logs is_settings ends =
-    ends_as {Q = Talked search Stays (λ a. row_for own terms a logs s) (λ a. PullShows own terms a logs s) blobs k old new} e new (λ r h. record {
+    ends_as {Q = SearchAskPull search Stays (λ a. row_for own terms a logs s) (λ a. PullShows own terms a logs s) blobs k old new} e new (λ r h. record {
       searched_at = searched_at;
       kept = kept;
       layers = layers;
@@ -169,18 +169,18 @@ talked own terms search Stays blobs k kept old searched_at asked new layers answ
     }) ends
 
 -- a pull by these terms, and what was sent for it
-pub finished_for : {V : Type 0} {H : V → Type 0} (own : Owns V H) (terms : Terms V H) (answers : Answers) (logs : FinMap by_bytes (List ℕ)) (s : Settings) (blobs : Bool) (k l : Kept) (old pulled new : Wire) (r : Result VerifiedImage PullRefusal) (e : Status)
+pub finished_for : {V : Type 0} {H : V → Type 0} (own : CustomVerdict V H) (terms : Terms V H) (answers : Answers) (logs : FinMap by_bytes (List ℕ)) (s : Settings) (blobs : Bool) (k l : Kept) (old pulled new : Wire) (r : Result VerifiedImage PullRefusal) (e : Status)
     → PulledBy (row_for own terms answers logs s) old pulled k l r → PullShows own terms answers logs s k l r old pulled → Delivers blobs r e pulled new
     → Ends (Finished (row_for own terms answers logs s) (PullShows own terms answers logs s) blobs k old new) e new
 finished_for own terms answers logs s blobs k l old pulled new r e pull shows given = finished (row_for own terms answers logs s) (PullShows own terms answers logs s) blobs k l old pulled new r e pull shows given
 
 -- how all of it ends, by the settings
-pub live_ends : {V : Type 0} {H : V → Type 0} (own : Owns V H) (settings : LiveSettings) (p : Prepared V H) (old new : Wire) (e : Status) → Prepares settings p
-    → Ends (Talked (searched_by p.terms p.client.rekor_pub_keys (client_state p.client).settings) (TermsConfined p.terms (client_state p.client).settings)
+pub live_ends : {V : Type 0} {H : V → Type 0} (own : CustomVerdict V H) (settings : LiveSettings) (p : Prepared V H) (old new : Wire) (e : Status) → Prepares settings p
+    → Ends (SearchAskPull (searched_by p.terms p.client.rekor_pub_keys (client_state p.client).settings) (TermsConfined p.terms (client_state p.client).settings)
     (λ answers. row_for own p.terms answers p.client.rekor_pub_keys (client_state p.client).settings)
     (λ answers. PullShows own p.terms answers p.client.rekor_pub_keys (client_state p.client).settings)
     settings.blobs (client_state p.client).kept old new) e new
     → Ends (λ r. Live settings r old new) e new
 live_ends own settings p old new e prepares h =
-    ends_as {P = Talked (searched_by p.terms p.client.rekor_pub_keys (client_state p.client).settings) (TermsConfined p.terms (client_state p.client).settings) (λ answers. row_for own p.terms answers p.client.rekor_pub_keys (client_state p.client).settings) (λ answers. PullShows own p.terms answers p.client.rekor_pub_keys (client_state p.client).settings) settings.blobs (client_state p.client).kept old new}
+    ends_as {P = SearchAskPull (searched_by p.terms p.client.rekor_pub_keys (client_state p.client).settings) (TermsConfined p.terms (client_state p.client).settings) (λ answers. row_for own p.terms answers p.client.rekor_pub_keys (client_state p.client).settings) (λ answers. PullShows own p.terms answers p.client.rekor_pub_keys (client_state p.client).settings) settings.blobs (client_state p.client).kept old new}
     {Q = λ r. Live settings r old new} e new (λ r t. live own settings p old new r prepares t) h

@@ -4,6 +4,6 @@ pub mod Parts
 pub mod Pulls
 pub mod Refusals
 pub mod Settings
-pub mod Shows
+pub mod Justified
 pub mod Status
 pub mod Terms

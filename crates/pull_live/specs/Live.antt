@@ -11,13 +11,13 @@ use Rattle.cosign_rows.specs.declared.refusal.PullRefusal.{PullRefusal}
 use Rattle.live_host.specs.HostErrors.{IsBroken, IsUnwritten}
 use Rattle.live_host.specs.Heads.{begin_head}
 use Rattle.live_host.specs.Questions.{WereAsked}
-use Rattle.live_host.specs.Wire.{Wire, Asks, Tells, Hears}
+use Rattle.live_host.specs.Wire.{Wire, SendsAndReceives, SendsFrame, ReceivesFrame}
 use Rattle.live_host.specs.declared.answers.Answers.{Answers}
 use Rattle.pull_setup.specs.Clients.{fresh}
 use Rattle.pull_live.specs.Pulls.{Collects, Transfer, context_of, meaning_of, search_row, pull_row}
 use Rattle.pull_live.specs.Refusals.{OutcomeTold}
 use Rattle.pull_live.specs.Settings.{settings_of}
-use Rattle.pull_live.specs.Shows.{Confined, Founded}
+use Rattle.pull_live.specs.Justified.{Confined, Justified}
 use Rattle.pull_live.specs.declared.settings.LiveSettings.{LiveSettings}
 use Rattle.pull_live.specs.declared.status.Status.{Status}
 use Rattle.pull_live.specs.declared.status.Status.TheVariants as status
@@ -39,7 +39,7 @@ pub record Live (settings : LiveSettings) (r : Result VerifiedImage PullRefusal)
   pub pulled : Wire
   pub left : Kept
   pub pull : Transfer (pull_row settings answers image) asked pulled kept left r
-  pub founded : Founded (meaning_of settings answers) (context_of settings) image settings.auth settings.accepted
+  pub founded : Justified (meaning_of settings answers) (context_of settings) image settings.auth settings.accepted
       kept left r asked pulled
   pub confined : Confined (context_of settings) image settings.auth kept left asked pulled
   pub given : OutcomeTold settings.blobs r pulled new
@@ -55,14 +55,14 @@ Ends P status.WantOfMemory new = Unit {0}
 
 -- a frame was received that parses as these settings
 abbrev pub Begins : LiveSettings → Wire → Wire → Type 0
-Begins settings old new = Asks begin_head [] settings_of settings old new
+Begins settings old new = SendsAndReceives begin_head [] settings_of settings old new
 
 -- a frame was received that is not settings
 pub record NoSettings (old new : Wire) : Type 0 where
   pub between : Wire
-  pub told : Tells begin_head [] old between
+  pub told : SendsFrame begin_head [] old between
   pub frame : Data
-  pub heard : Hears frame between new
+  pub heard : ReceivesFrame frame between new
   pub unread : settings_of frame ≡ None
 
 -- what was done with a host
@@ -70,6 +70,6 @@ abbrev pub Lives : Result VerifiedImage PullRefusal → Wire → Wire → Type 0
 Lives r old new = (settings : LiveSettings) × (begun : Wire) × Begins settings old begun × Live settings r begun new
 
 -- what a status means
-abbrev pub Says : Status → Wire → Wire → Type 0
-Says status.UnreadableSettings old new = NoSettings old new
-Says other old new = Ends (λ r. Lives r old new) other new
+abbrev pub StatusMeans : Status → Wire → Wire → Type 0
+StatusMeans status.UnreadableSettings old new = NoSettings old new
+StatusMeans other old new = Ends (λ r. Lives r old new) other new

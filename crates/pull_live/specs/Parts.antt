@@ -91,7 +91,7 @@ searched_by terms log_keys settings =
     searched (everyone log_keys) (within settings terms.moment) (reference_in terms.image) (registry_auth terms.auth)
 
 -- a search, questions about what it found, and a pull under the answers
-pub record Talked (search : Row TrustedLayers) (Stays : Kept → Kept → Wire → Wire → Type 0)
+pub record SearchAskPull (search : Row TrustedLayers) (Stays : Kept → Kept → Wire → Wire → Type 0)
     (pull : Answers → Whole VerifiedImage) (shows : Answers → Showing) (blobs : Bool) (k : Kept) (old new : Wire)
     (r : Result VerifiedImage PullRefusal) : Type 0 where
   pub searched_at : Wire

@@ -8,7 +8,7 @@ use Rattle.engine_terms.specs.Contexts.{Context, within}
 use Rattle.engine_terms.specs.declared.settings.Settings.{Settings}
 use Rattle.sig_calls.specs.Clients.{Kept, Row, none_kept}
 use Rattle.sig_calls.specs.declared.error.SigstoreError.{SigstoreError}
-use Rattle.cosign_layers.specs.Standing.{Meaning, meaning}
+use Rattle.cosign_layers.specs.Satisfying.{PolicyContext, policy_context}
 use Rattle.cosign_layers.specs.Trust.{Trust, trust}
 use Rattle.cosign_layers.specs.declared.layer.SignatureLayer.{SignatureLayer}
 use Rattle.cosign_layers.specs.declared.policy.PullPolicy.{PullPolicy}
@@ -41,8 +41,8 @@ policy_of settings = record { keys = settings.keys; constraints = constraints_by
 abbrev pub trust_of : LiveSettings → Answers → Trust
 trust_of settings answers = trust (valid_by answers) (vouched_by answers) settings.log_keys
 
-abbrev pub meaning_of : LiveSettings → Answers → Meaning ⊥ (λ v. ⊥)
-meaning_of settings answers = meaning (policy_of settings) (λ box layer. false) (trust_of settings answers)
+abbrev pub meaning_of : LiveSettings → Answers → PolicyContext ⊥ (λ v. ⊥)
+meaning_of settings answers = policy_context (policy_of settings) (λ box layer. false) (trust_of settings answers)
 
 -- the search for all layers that may satisfy the policy, whatever the signatures
 abbrev pub search_row : LiveSettings → Reference → Row TrustedLayers
@@ -55,8 +55,8 @@ pull_row settings answers image =
 
 -- If the streams expose their bytes, what was sent and received are the frames of these exchanges.
 abbrev pub Carries : List Exchange → Wire → Wire → Type 0
-Carries c old new = (taken left : List ℕ) → old.tray.taken ≡ Some taken → old.spring.left ≡ Some left
-    → (breach : Option Breach) × ∥ Held taken left new.tray new.spring breach c ∥₁
+Carries c old new = (taken left : List ℕ) → old.sink.taken ≡ Some taken → old.source.left ≡ Some left
+    → (breach : Option Breach) × ∥ Held taken left new.sink new.source breach c ∥₁
 
 -- a complete run of this row, by the frames that were sent and received
 pub record Transfer {A : Type 0} (row : Proto Kept A) (old new : Wire) (k l : Kept) (a : A) : Type 0 where

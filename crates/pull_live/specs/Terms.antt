@@ -9,7 +9,7 @@ use Rattle.sig_calls.specs.Error.{is_memory as of_memory}
 use Rattle.sig_settings.specs.Auths.{registry_auth}
 use Rattle.sig_calls.specs.Direct.{reference_in}
 use Rattle.sig_calls.specs.declared.error.SigstoreError.{SigstoreError}
-use Rattle.cosign_layers.specs.Standing.{Owns, meaning}
+use Rattle.cosign_layers.specs.Satisfying.{CustomVerdict, policy_context}
 use Rattle.cosign_layers.specs.Trust.{trust}
 use Rattle.cosign_chain.specs.declared.image.VerifiedImage.{VerifiedImage}
 use Rattle.cosign_rows.specs.Refusal.{is_memory}
@@ -20,14 +20,14 @@ use Rattle.live_host.specs.Answers.{valid_by, vouched_by}
 use Rattle.live_host.specs.Wire.{Wire}
 use Rattle.live_host.specs.declared.answers.Answers.{Answers}
 use Rattle.pull_live.specs.Pulls.{Transfer}
-use Rattle.pull_live.specs.Shows.{Confined, Founded}
+use Rattle.pull_live.specs.Justified.{Confined, Justified}
 use Rattle.pull_live.specs.declared.pulls.Terms.{Terms}
 
 -- the pull by these terms, under the host's answers, by a client with these settings that knows these logs
 abbrev pub row_for : {V : Type 0} {H : V → Type 0}
-    → Owns V H → Terms V H → Answers → FinMap by_bytes (List ℕ) → Settings → Whole VerifiedImage
+    → CustomVerdict V H → Terms V H → Answers → FinMap by_bytes (List ℕ) → Settings → Whole VerifiedImage
 row_for own terms answers log_keys settings =
-    verified (meaning terms.policy own (trust (valid_by answers) (vouched_by answers) log_keys))
+    verified (policy_context terms.policy own (trust (valid_by answers) (vouched_by answers) log_keys))
     (within settings terms.moment) (reference_in terms.image) (registry_auth terms.auth) terms.accepted
 
 -- the search did not run out of memory
@@ -46,9 +46,10 @@ TermsConfined terms settings =
     Confined (within settings terms.moment) (reference_in terms.image) (registry_auth terms.auth)
 
 -- the properties of the pull by these terms: its image or its error is justified, and it is confined
-abbrev pub PullShows : {V : Type 0} {H : V → Type 0} → Owns V H → Terms V H → Answers → FinMap by_bytes (List ℕ)
+abbrev pub PullShows : {V : Type 0} {H : V → Type 0} → CustomVerdict V H → Terms V H → Answers
+    → FinMap by_bytes (List ℕ)
     → Settings → Kept → Kept → Result VerifiedImage PullRefusal → Wire → Wire → Type 0
 PullShows own terms answers log_keys settings k l r old new =
-    Founded (meaning terms.policy own (trust (valid_by answers) (vouched_by answers) log_keys))
+    Justified (policy_context terms.policy own (trust (valid_by answers) (vouched_by answers) log_keys))
     (within settings terms.moment) (reference_in terms.image) (registry_auth terms.auth) terms.accepted k l r old new
     × TermsConfined terms settings k l old new

@@ -1,7 +1,7 @@
 // Keys as base64 strings.
 ghost use Rattle.serde_json.specs.View.{items_view, members_view};
 ghost use Rattle.std.specs.FinMap.{empty};
-ghost use Rattle.json_tables.specs.Outcomes.{Gives};
+ghost use Rattle.json_tables.specs.Outcomes.{ReadsTo};
 ghost use Rattle.json_tables.specs.Reading.{items_by, members_by};
 ghost use Rattle.json_tables.specs.Member.{present};
 ghost use Rattle.pull_case.specs.Members.{unless_absent};
@@ -42,7 +42,7 @@ impl Member for KeyList {
 }
 
 fn read_keys(alloc: Global, items: &[Value]) -> Result<List<Blob>, ReadError>
-    ensures { Gives result (items_by key_of (items_view items.now)) }
+    ensures { ReadsTo result (items_by key_of (items_view items.now)) }
 {
     let mut list = List::new(alloc);
     for item in items {
@@ -88,7 +88,7 @@ impl Member for KeyMap {
 }
 
 fn read_log_keys(alloc: Global, members: &Map<String, Value>) -> Result<LogKeys, ReadError>
-    ensures { Gives result (members_by key_of empty (members_view members.now.entries)) }
+    ensures { ReadsTo result (members_by key_of empty (members_view members.now.entries)) }
 {
     let mut found = TextMap::new(alloc);
     for (name, member) in members.iter() {
@@ -100,7 +100,7 @@ fn read_log_keys(alloc: Global, members: &Map<String, Value>) -> Result<LogKeys,
 
 #[tactic(auto, unfolding(crate::specs::Settings::key_of))]
 fn read_key(alloc: Global, value: &Value) -> Result<Blob, ReadError>
-    ensures { Gives result (key_of (view value.now)) }
+    ensures { ReadsTo result (key_of (view value.now)) }
 {
     let Value::String(text) = value else {
         return Err(ReadError::Shape);

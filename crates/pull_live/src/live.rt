@@ -2,8 +2,8 @@
 ghost use Rattle.std.specs.Prelude.{◌≡◌, Ok, Err, Bool, IfOk, IfErr};
 ghost use Rattle.cosign_client.specs.State.{client_state};
 ghost use Rattle.live_host.specs.Wire.{wire};
-ghost use Rattle.pull_live.specs.Live.{Begins, Ends, Says, Live};
-ghost use Rattle.pull_live.specs.Parts.{Prepares, BeginCause, ReadsSettings, Delivers, Finished, Talked, searched_by};
+ghost use Rattle.pull_live.specs.Live.{Begins, Ends, StatusMeans, Live};
+ghost use Rattle.pull_live.specs.Parts.{Prepares, BeginCause, ReadsSettings, Delivers, Finished, SearchAskPull, searched_by};
 ghost use Rattle.pull_live.specs.Settings.{IsReady};
 ghost use Rattle.pull_live.specs.Terms.{row_for, PullShows, TermsConfined};
 
@@ -19,7 +19,7 @@ use json_values::{Json, Sink};
 use live_host::{Answers, HostError, Streams, ask_layers, begin_head, give_image, hear, tell};
 use pull_case::constraints_from;
 use pull_edge::Source;
-use pull_report::let_go;
+use pull_report::drop_outcome;
 use pull_setup::ask_for;
 use std::alloc::Global;
 
@@ -142,7 +142,7 @@ fn finish<S: Source, K: Sink>(
         answers,
     );
     let status = deliver(alloc, &mut streams, blobs, &outcome);
-    let_go(outcome);
+    drop_outcome(outcome);
     Ended { status, streams }
 }
 
@@ -153,7 +153,7 @@ fn converse<S: Source, K: Sink>(
     prepared: &mut Prepared,
     blobs: bool,
 ) -> Ended<S, K>
-    ensures { Ends (Talked
+    ensures { Ends (SearchAskPull
         (searched_by prepared.old.terms prepared.old.client.rekor_pub_keys (client_state prepared.old.client).settings)
         (TermsConfined prepared.old.terms (client_state prepared.old.client).settings)
         (λ answers. row_for (λ b. accepts (b.vtable, b.value)) prepared.old.terms answers
@@ -223,18 +223,18 @@ fn serve<S: Source, K: Sink>(
     };
     let mut prepared = Prepared { client, terms };
     let ended = converse(alloc, streams, &mut prepared, blobs);
-    let_prepared_go(prepared);
+    drop_prepared(prepared);
     ended
 }
 
 // Drops it in a function without other facts, so that each of its many parts is dropped once.
-fn let_prepared_go(_prepared: Prepared) {}
+fn drop_prepared(_prepared: Prepared) {}
 
 /// Pulls an image with a host, which opens the connections, verifies signatures and supplies the time: receives the
 /// settings, searches signature layers, asks the host about them, pulls the image under its answers, and sends it, or
 /// why it was refused. Returns the exit status and the streams.
 pub fn run<S: Source, K: Sink>(alloc: Global, streams: Streams<S, K>) -> Ended<S, K>
-    ensures says { Says result.status
+    ensures status { StatusMeans result.status
         (wire S.state K.state streams) (wire S.state K.state result.streams) }
 {
     let mut streams = streams;

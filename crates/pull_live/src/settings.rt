@@ -1,7 +1,7 @@
 // The settings of a live pull.
 ghost use Rattle.std.specs.Prelude.{IfOk};
 ghost use Rattle.serde_json.specs.View.{view};
-ghost use Rattle.json_tables.specs.Outcomes.{Gives};
+ghost use Rattle.json_tables.specs.Outcomes.{ReadsTo};
 ghost use Rattle.pull_live.specs.Settings.{settings_of, IsReady};
 
 use crate::keys::{KeyList, KeyMap};
@@ -123,7 +123,7 @@ impl Reads for LiveSettings {
 
 /// Reads settings. Returns `Shape` if and only if the value is not a frame with the members of `LiveSettings`.
 pub(crate) fn read_settings(alloc: Global, value: &Value) -> Result<LiveSettings, ReadError>
-    ensures exact { Gives result (settings_of (view value.now)) }
+    ensures exact { ReadsTo result (settings_of (view value.now)) }
     ensures ready { IfOk result IsReady }
 {
     let settings = LiveSettings::read_value(alloc, value)?;

@@ -11,4 +11,4 @@ mod values;
 
 pub use lines::{Line, print_line, text_line, write_lines};
 pub use printed::Printed;
-pub use report::{let_go, write_outcome, write_refusal, write_report};
+pub use report::{drop_outcome, write_outcome, write_refusal, write_report};

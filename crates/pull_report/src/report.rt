@@ -80,4 +80,4 @@ pub fn write_report(
 
 /// Drops a result. If one is dropped beside other values, each of its many cases is proved with them again; here it
 /// is alone.
-pub fn let_go(_outcome: Result<VerifiedImage, PullRefusal>) {}
+pub fn drop_outcome(_outcome: Result<VerifiedImage, PullRefusal>) {}

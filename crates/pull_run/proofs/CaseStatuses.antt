@@ -1,7 +1,7 @@
 -- The exit status for a case whose registry has its image.
 use Rattle.std.proofs.Common.{◌≡◌, ◌≤◌, inl, inr, ℕ, Bool, true, false, not, List, Option, Some, None, length, refl, sym, ap, subst, ◌∙◌}
-use Rattle.json_values.specs.Tray.{Tray}
-use Rattle.pull_edge.specs.Source.{Spring}
+use Rattle.json_values.specs.SinkState.{SinkState}
+use Rattle.pull_edge.specs.Source.{SourceState}
 use Rattle.pull_case.specs.Case.{case_in}
 use Rattle.pull_case.specs.declared.case.Case.{Case}
 use Rattle.pull_cases.specs.declared.report.Report.{Report}
@@ -11,8 +11,8 @@ use Rattle.pull_run.specs.declared.word.Word.{Word}
 use Rattle.pull_run.specs.declared.word.Word.TheVariants.{Pull}
 use Rattle.pull_run.specs.Complete.{HasImage, EndsDone, EndsComplete}
 use Rattle.pull_run.specs.Input.{input_limit, IsRead}
-use Rattle.pull_run.specs.Program.{SaysTask, Says}
-use Rattle.pull_cases.specs.Pulls.{Talk, all_answered, ReportsCase}
+use Rattle.pull_run.specs.Program.{TaskStatusMeans, StatusMeans}
+use Rattle.pull_cases.specs.Pulls.{PullRecord, all_answered, ReportsCase}
 use Rattle.pull_run.specs.Status.{code_of}
 use Rattle.pull_run.specs.Task.{task_by, task_of}
 use Rattle.pull_run.specs.Word.{word_of}
@@ -21,7 +21,7 @@ use Rattle.pull_run.proofs.Inputs.{input_is}
 use Rattle.pull_run.proofs.Statuses.{past_all, reads_word}
 
 -- what was read is the case
-same_case : (case other : Case) (told : List ℕ) (old new : Spring) → old.left ≡ Some told → case_in told ≡ Some case → IsRead case_in other old new → other ≡ case
+same_case : (case other : Case) (told : List ℕ) (old new : SourceState) → old.left ≡ Some told → case_in told ≡ Some case → IsRead case_in other old new → other ≡ case
 same_case case other told old new is reads h = cc (sym h.2 ∙ ap case_in (input_is h.0 told old new is h.1) ∙ reads)
 
 -- its report contains no refusal
@@ -31,8 +31,8 @@ none_refused case other made has same gives refused =
     let all : all_answered reports.talks ≡ true = answers_all case reports.talks has reports.pulled in
     cc (sym refused ∙ reports.refused ∙ ap not all)
 
-complete_ends : (s : Status) (case : Case) (told : List ℕ) (old new : Spring) (before after : Tray) → old.left ≡ Some told → length told ≤ input_limit → case_in told ≡ Some case → HasImage case
-    → SaysTask (task_by case_in ReportsCase) s old new before after → EndsDone (code_of s) old new before after
+complete_ends : (s : Status) (case : Case) (told : List ℕ) (old new : SourceState) (before after : SinkState) → old.left ≡ Some told → length told ≤ input_limit → case_in told ≡ Some case → HasImage case
+    → TaskStatusMeans (task_by case_in ReportsCase) s old new before after → EndsDone (code_of s) old new before after
 complete_ends status.Done case told old new before after is short reads has h = inl refl
 complete_ends status.Refused case told old new before after is short reads has h =
     absurd (none_refused case h.makes.input h.made has (same_case case h.makes.input told old new is reads h.makes.is_read) h.makes.gives h.refused_is)
@@ -44,7 +44,7 @@ complete_ends status.SinkFault case told old new before after is short reads has
 complete_ends status.WantOfMemory case told old new before after is short reads has h = inr (inl refl)
 complete_ends status.TooLong case told old new before after is short reads has h = absurd (past_all told old new is short h.0.0)
 
-pub says_complete : (words : List (List ℕ)) (code : ℕ) (old new : Spring) (before after : Tray) → Says words code old new before after → EndsComplete words code old new before after
+pub says_complete : (words : List (List ℕ)) (code : ℕ) (old new : SourceState) (before after : SinkState) → StatusMeans words code old new before after → EndsComplete words code old new before after
 says_complete words code old new before after says told case word_is left short reads has =
-    let h : SaysTask (task_of Pull) says.0 old new before after = rw (reads_word words Pull word_is) at says.2 in
+    let h : TaskStatusMeans (task_of Pull) says.0 old new before after = rw (reads_word words Pull word_is) at says.2 in
     rw says.1 (complete_ends says.0 case told old new before after left short reads has h)

@@ -3,7 +3,7 @@ use Rattle.std.proofs.Common.{◌≡◌, ◌+◌, ℕ, List, ◌++◌, Option, S
 use Rattle.std.specs.Prelude.{Result, IfOk}
 use Rattle.std.specs.Result.{IsErr, IsErrAnd}
 use Rattle.std.specs.Io.KnownBytes.{Consumes, IsAtEnd}
-use Rattle.pull_edge.specs.Source.{Spring}
+use Rattle.pull_edge.specs.Source.{SourceState}
 use Rattle.pull_edge.specs.Reading.{Reads, TakesWithin}
 use Rattle.pull_edge.specs.declared.reading.ReadRefusal.{ReadRefusal}
 use Rattle.pull_edge.specs.declared.reading.ReadRefusal.TheVariants as read
@@ -13,21 +13,21 @@ use Rattle.pull_run.specs.declared.status.Status.{Status}
 use Rattle.pull_run.specs.declared.status.Status.TheVariants as status
 
 -- the source was not read to its end
-pub cut_off : {X : Type 0} (reads : List ℕ → Option X) (r : Result X Status) (refusal : ReadRefusal) (old new : Spring) → IsErr r → IsErrAnd r (λ s. s ≡ status_of refusal) → Reads input_limit (Err refusal) old new → ReadsInput reads r old new
+pub cut_off : {X : Type 0} (reads : List ℕ → Option X) (r : Result X Status) (refusal : ReadRefusal) (old new : SourceState) → IsErr r → IsErrAnd r (λ s. s ≡ status_of refusal) → Reads input_limit (Err refusal) old new → ReadsInput reads r old new
 cut_off reads (Ok x) refusal old new err is cut = absurd (cc err)
 cut_off reads (Err s) read.TooLong old new err is cut = rw is cut
 cut_off reads (Err s) read.SourceFault old new err is cut = rw is cut
 cut_off reads (Err s) read.WantOfMemory old new err is cut = rw is cut
 
-pub within_limit : (bytes : List ℕ) (old new : Spring) → IsInput bytes old new → TakesWithin input_limit old new
+pub within_limit : (bytes : List ℕ) (old new : SourceState) → IsInput bytes old new → TakesWithin input_limit old new
 within_limit bytes old new h = (bytes, h.0.0, h.1)
 
 -- memory ran out after the whole input was read
-pub wanting_behind : {X : Type 0} (reads : List ℕ → Option X) (r : Result X Status) (bytes : List ℕ) (old new : Spring) → IsErr r → IsErrAnd r (λ s. s ≡ status.WantOfMemory) → IsInput bytes old new → ReadsInput reads r old new
+pub wanting_behind : {X : Type 0} (reads : List ℕ → Option X) (r : Result X Status) (bytes : List ℕ) (old new : SourceState) → IsErr r → IsErrAnd r (λ s. s ≡ status.WantOfMemory) → IsInput bytes old new → ReadsInput reads r old new
 wanting_behind reads (Ok x) bytes old new err is h = absurd (cc err)
 wanting_behind reads (Err s) bytes old new err is h = rw is (within_limit bytes old new h, h.2)
 
-pub read_within : {X : Type 0} (reads : List ℕ → Option X) (x : X) (old new : Spring) → IsRead reads x old new → TakesWithin input_limit old new
+pub read_within : {X : Type 0} (reads : List ℕ → Option X) (x : X) (old new : SourceState) → IsRead reads x old new → TakesWithin input_limit old new
 read_within reads x old new h = within_limit h.0 old new h.1
 
 whole_is : (left right : Option (List ℕ)) (bytes told : List ℕ) → left ≡ Some told → Consumes left right bytes → IsAtEnd right → bytes ≡ told
@@ -36,7 +36,7 @@ whole_is (Some xs) None bytes told is taken end = absurd taken
 whole_is (Some xs) (Some ys) bytes told is taken end = sym (append-nil bytes) ∙ sym (ap (λ zs. bytes ++ zs) end) ∙ sym taken ∙ cc is
 
 -- what was read is what the source exposed
-pub input_is : (bytes told : List ℕ) (old new : Spring) → old.left ≡ Some told → IsInput bytes old new → bytes ≡ told
+pub input_is : (bytes told : List ℕ) (old new : SourceState) → old.left ≡ Some told → IsInput bytes old new → bytes ≡ told
 input_is bytes told old new is h = whole_is old.left new.left bytes told is h.0.0 h.0.1
 
 pub taken_is : (left right : Option (List ℕ)) (front told rest : List ℕ) → left ≡ Some told → right ≡ Some rest → Consumes left right front → length told ≡ length front + length rest

@@ -3,7 +3,7 @@ use Rattle.std.specs.Prelude.{nat_eq}
 use Rattle.std.proofs.Common.{◌≡◌, ◌≤◌, ℕ, suc, Bool, true, false, ◌&&◌, ◌||◌, List, [], ◌∷◌, ◌++◌, Result, Ok, Err, refl, sym, ap, ◌∙◌, subst, arith}
 use Rattle.std.proofs.lemmas.Bool.Decides.{nat_tests}
 use Rattle.oci_transport.specs.Link.{Answering, AnsweredBy, NeverFails}
-use Rattle.oci_transport.specs.Calm.{calm}
+use Rattle.oci_transport.specs.FaultsOnlyWhere.{faults_only_where}
 use Rattle.oci_transport.specs.declared.message.Exchange.{Exchange}
 use Rattle.oci_names.specs.Reference.{reference_of}
 use Rattle.oci_names.specs.declared.reference.Reference.{Reference}
@@ -12,7 +12,7 @@ use Rattle.oci_protocol.specs.Runs.{Runs}
 use Rattle.oci_protocol.proofs.Laws.{Runs-count}
 use Rattle.oci_link.specs.State.{answering}
 use Rattle.oci_link.specs.declared.shelf.Shelf.{Shelf}
-use Rattle.shelf_laws.specs.Comes.{OrMemory}
+use Rattle.shelf_laws.specs.EvaluatesWith.{OrMemory}
 use Rattle.sig_calls.specs.Clients.{Kept}
 use Rattle.cosign_chain.specs.declared.image.VerifiedImage.{VerifiedImage}
 use Rattle.cosign_rows.specs.Refusal.{is_memory}
@@ -26,7 +26,7 @@ use Rattle.pull_case.specs.Registry.{answering_by}
 use Rattle.pull_case.specs.declared.case.Case.{Case}
 use Rattle.pull_run.specs.Complete.{HasImage}
 use Rattle.pull_cases.proofs.PullsInTurn.{Turns, turns}
-use Rattle.pull_cases.specs.Pulls.{Talk, joined, is_answered, all_answered, is_wanting, EachWhole, settings_of, row_of, Pulled}
+use Rattle.pull_cases.specs.Pulls.{PullRecord, joined, is_answered, all_answered, is_wanting, EachWhole, settings_of, row_of, Pulled}
 use Rattle.pull_setup.specs.Clients.{fresh}
 
 -- ---- fault counts if nothing may fail
@@ -43,11 +43,11 @@ same_count : (fails : Bool) (x y : ℕ) → fails ≡ false → (fails || nat_eq
 same_count fails x y never h = let eq : nat_eq x y ≡ true = ap (λ b. b || nat_eq x y) (sym never) ∙ h in grind (arith, nat_tests, eq)
 
 -- the last fault count is that of the first exchange
-last_is_first : (fails : ℕ → Bool) → ((place : ℕ) → fails place ≡ false) → (place : ℕ) (e : Exchange) (c : List Exchange) (n : ℕ) → calm fails place (e ∷ c) n ≡ true → n ≡ e.faults
+last_is_first : (fails : ℕ → Bool) → ((place : ℕ) → fails place ≡ false) → (place : ℕ) (e : Exchange) (c : List Exchange) (n : ℕ) → faults_only_where fails place (e ∷ c) n ≡ true → n ≡ e.faults
 last_is_first fails never place e [] n h = same_count (fails place) n e.faults (never place) (left_of (fails place || nat_eq n e.faults) true h)
 last_is_first fails never place e (x ∷ c) n h =
-    let first = same_count (fails place) x.faults e.faults (never place) (left_of (fails place || nat_eq x.faults e.faults) (calm fails (suc place) (x ∷ c) n) h) in
-    last_is_first fails never (suc place) x c n (right_of (fails place || nat_eq x.faults e.faults) (calm fails (suc place) (x ∷ c) n) h) ∙ first
+    let first = same_count (fails place) x.faults e.faults (never place) (left_of (fails place || nat_eq x.faults e.faults) (faults_only_where fails (suc place) (x ∷ c) n) h) in
+    last_is_first fails never (suc place) x c n (right_of (fails place || nat_eq x.faults e.faults) (faults_only_where fails (suc place) (x ∷ c) n) h) ∙ first
 
 -- the first exchange was sent at the fault count before it
 first_count : {K A : Type 0} (p : Proto K A) (k l : K) (m n : ℕ) (e : Exchange) (c : List Exchange) (a : A) → Runs p k m (e ∷ c) n l a → e.faults ≡ m
@@ -91,7 +91,7 @@ second_empty [] d is = is
 second_empty (e ∷ c) d is = absurd (cc is)
 
 -- without an exchange the fault count is unchanged
-turn_none : (row : ℕ → Whole VerifiedImage) (talks : List Talk) (k l : Kept) (m n : ℕ) → Turns row k m talks l n → joined talks ≡ [] → n ≡ m
+turn_none : (row : ℕ → Whole VerifiedImage) (talks : List PullRecord) (k l : Kept) (m n : ℕ) → Turns row k m talks l n → joined talks ≡ [] → n ≡ m
 turn_none row [] k l m n turn none = sym turn.1
 turn_none row (talk ∷ talks) k l m n turn none =
     let silent = first_empty talk.conversation (joined talks) none in
@@ -99,7 +99,7 @@ turn_none row (talk ∷ talks) k l m n turn none =
     ∙ none_count (row talk.moment) talk.before turn.1 m turn.2 talk.result (subst (λ (c : List Exchange). Runs (row talk.moment) talk.before m c turn.2 turn.1 talk.result) silent turn.3)
 
 -- the first exchange was sent at the fault count before the pulls
-turn_first : (row : ℕ → Whole VerifiedImage) (talks : List Talk) (k l : Kept) (m n : ℕ) (e : Exchange) (c : List Exchange) → Turns row k m talks l n → joined talks ≡ e ∷ c → e.faults ≡ m
+turn_first : (row : ℕ → Whole VerifiedImage) (talks : List PullRecord) (k l : Kept) (m n : ℕ) (e : Exchange) (c : List Exchange) → Turns row k m talks l n → joined talks ≡ e ∷ c → e.faults ≡ m
 turn_first row [] k l m n e c turn is = absurd (cc is)
 turn_first row (talk ∷ talks) k l m n e c turn is = by_conversation talk.conversation refl (turn_first row talks turn.1 l turn.2 n e c turn.4) where
   run_of : (own : List Exchange) → talk.conversation ≡ own → Runs (row talk.moment) talk.before m own turn.2 turn.1 talk.result
@@ -111,13 +111,13 @@ turn_first row (talk ∷ talks) k l m n e c turn is = by_conversation talk.conve
       let first : x ≡ e = cc (ap (λ (d : List Exchange). d ++ joined talks) (sym same) ∙ is) in
       ap (λ (y : Exchange). y.faults) (sym first) ∙ first_count (row talk.moment) talk.before turn.1 m turn.2 x xs talk.result (run_of (x ∷ xs) same)
 
-turn_count : (fails : ℕ → Bool) → ((place : ℕ) → fails place ≡ false) → (row : ℕ → Whole VerifiedImage) (talks : List Talk) (k l : Kept) (m n : ℕ) → calm fails 0 (joined talks) n ≡ true → Turns row k m talks l n → n ≡ m
+turn_count : (fails : ℕ → Bool) → ((place : ℕ) → fails place ≡ false) → (row : ℕ → Whole VerifiedImage) (talks : List PullRecord) (k l : Kept) (m n : ℕ) → faults_only_where fails 0 (joined talks) n ≡ true → Turns row k m talks l n → n ≡ m
 turn_count fails never row talks k l m n calm_is turn = by_joined (joined talks) refl where
   by_joined : (c : List Exchange) → joined talks ≡ c → n ≡ m
   by_joined [] none = turn_none row talks k l m n turn none
-  by_joined (e ∷ c) is = last_is_first fails never 0 e c n (subst (λ (d : List Exchange). calm fails 0 d n ≡ true) is calm_is) ∙ turn_first row talks k l m n e c turn is
+  by_joined (e ∷ c) is = last_is_first fails never 0 e c n (subst (λ (d : List Exchange). faults_only_where fails 0 d n ≡ true) is calm_is) ∙ turn_first row talks k l m n e c turn is
 
-turn_le : (row : ℕ → Whole VerifiedImage) (talks : List Talk) (k l : Kept) (m n : ℕ) → Turns row k m talks l n → m ≤ n
+turn_le : (row : ℕ → Whole VerifiedImage) (talks : List PullRecord) (k l : Kept) (m n : ℕ) → Turns row k m talks l n → m ≤ n
 turn_le row [] k l m n turn = omega (arith, turn.1)
 turn_le row (talk ∷ talks) k l m n turn = omega (arith, Runs-count (row talk.moment) talk.before turn.1 m turn.2 talk.conversation talk.result turn.3, turn_le row talks turn.1 l turn.2 n turn.4)
 
@@ -127,7 +127,7 @@ answered_apart t place [] d answered = (tt, place, answered)
 answered_apart t place (e ∷ c) d answered = let rest = answered_apart t (suc place) c d answered.1 in ((answered.0, rest.0), rest.1, rest.2)
 
 -- each pull by a settled client succeeds, and leaves it settled
-each_answered : (case : Case) (h : HasImage case) (talks : List Talk) (k l : Kept) (place m n : ℕ) → m ≡ 0 → n ≡ 0 → IsSettled (settings_of case) h.image case.auth h.shelf k → Turns (row_of case h.image) k m talks l n → AnsweredBy (answering h.shelf) place (joined talks) → EachWhole talks → all_answered talks ≡ true
+each_answered : (case : Case) (h : HasImage case) (talks : List PullRecord) (k l : Kept) (place m n : ℕ) → m ≡ 0 → n ≡ 0 → IsSettled (settings_of case) h.image case.auth h.shelf k → Turns (row_of case h.image) k m talks l n → AnsweredBy (answering h.shelf) place (joined talks) → EachWhole talks → all_answered talks ≡ true
 each_answered case h [] k l place m n start end settled turn answered whole = refl
 each_answered case h (talk ∷ talks) k l place m n start end settled turn answered whole =
     let row = row_of case h.image in
@@ -141,11 +141,11 @@ each_answered case h (talk ∷ talks) k l place m n start end settled turn answe
     let after = run_settled (meaning_of case) (settings_of case) h.image case.auth case.accepted h.shelf h.wide.has.asked talk.moment talk.before turn.1 place m count talk.conversation talk.result before apart.0 (omega (arith, none)) (omega (arith, start)) turn.3 in
     ap (λ b. b && all_answered talks) one ∙ each_answered case h talks turn.1 l apart.1 count n none end after turn.4 apart.2 whole.1
 
-pub answers_all : (case : Case) (talks : List Talk) → HasImage case → Pulled case talks → all_answered talks ≡ true
+pub answers_all : (case : Case) (talks : List PullRecord) → HasImage case → Pulled case talks → all_answered talks ≡ true
 answers_all case talks h p =
     let image_is = same_image case p.image h.image p.reads h.reads in
     let turn = subst (λ (r : Reference). Turns (row_of case r) (fresh case.caching) 0 talks p.kept p.faults) image_is (turns (row_of case p.image) (answering_by case.registry) 0 (fresh case.caching) p.kept 0 p.faults talks p.in_turn) in
     let answered : AnsweredBy (answering h.shelf) 0 (joined talks) = subst (λ g. AnsweredBy (answering_by g) 0 (joined talks)) h.held p.answered in
-    let calm_is : calm (answering h.shelf).fails 0 (joined talks) p.faults ≡ true = subst (λ g. calm (answering_by g).fails 0 (joined talks) p.faults ≡ true) h.held p.calm_is in
+    let calm_is : faults_only_where (answering h.shelf).fails 0 (joined talks) p.faults ≡ true = subst (λ g. faults_only_where (answering_by g).fails 0 (joined talks) p.faults ≡ true) h.held p.calm_is in
     each_answered case h talks (fresh case.caching) p.kept 0 0 p.faults refl (turn_count (answering h.shelf).fails (never_fails h.shelf) (row_of case h.image) talks (fresh case.caching) p.kept 0 p.faults calm_is turn)
     (new_settled (settings_of case) h.image case.auth h.shelf 60 case.caching) turn answered p.whole

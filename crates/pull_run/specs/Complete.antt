@@ -1,8 +1,8 @@
 -- Which cases end with 0: those whose registry is a shelf that has the image, signed as the policy requires.
 use Rattle.std.specs.Prelude.{◌≡◌, ◌≤◌, ◌⊎◌, ℕ, List, length, Some, Ok}
-use Rattle.json_values.specs.Counts.{Rose}
-use Rattle.json_values.specs.Tray.{Tray}
-use Rattle.pull_edge.specs.Source.{Spring}
+use Rattle.json_values.specs.Counts.{Increased}
+use Rattle.json_values.specs.SinkState.{SinkState}
+use Rattle.pull_edge.specs.Source.{SourceState}
 use Rattle.oci_link.specs.declared.shelf.Shelf.{Shelf}
 use Rattle.oci_names.specs.Reference.{reference_of}
 use Rattle.oci_names.specs.declared.reference.Reference.{Reference}
@@ -26,13 +26,13 @@ pub record HasImage (case : Case) : Type 0 where
   pub wide : WideShelf (meaning_of case) (settings_of case) image case.auth case.accepted shelf
 
 -- with 0, unless memory ran out, or the source or the sink failed
-abbrev pub EndsDone : ℕ → Spring → Spring → Tray → Tray → Type 0
+abbrev pub EndsDone : ℕ → SourceState → SourceState → SinkState → SinkState → Type 0
 EndsDone code old new before after =
-    (code ≡ 0) ⊎ ((code ≡ 6) ⊎ (((code ≡ 4) × Rose old.faults new.faults)
-    ⊎ ((code ≡ 5) × Rose before.faults after.faults)))
+    (code ≡ 0) ⊎ ((code ≡ 6) ⊎ (((code ≡ 4) × Increased old.faults new.faults)
+    ⊎ ((code ≡ 5) × Increased before.faults after.faults)))
 
 -- how the pull of such a case ends
-abbrev pub EndsComplete : List (List ℕ) → ℕ → Spring → Spring → Tray → Tray → Type 0
+abbrev pub EndsComplete : List (List ℕ) → ℕ → SourceState → SourceState → SinkState → SinkState → Type 0
 EndsComplete words code old new before after = (bytes : List ℕ) (case : Case) → word_of words ≡ Some Pull
     → old.left ≡ Some bytes → length bytes ≤ input_limit → case_in bytes ≡ Some case → HasImage case
     → EndsDone code old new before after

@@ -1,11 +1,11 @@
 -- The output of `gen`: the lines of a pull of the generated image over its shelf.
 use Rattle.std.specs.Prelude.{◌≡◌, ◌⊎◌, ℕ, false, List, [], ◌∷◌, ◌++◌, Some, Result, Ok, Err, codes, decimal, length}
-use Rattle.json_values.specs.Counts.{Rose, Stays}
-use Rattle.json_values.specs.Tray.{Tray, Adds, AddsPart}
+use Rattle.json_values.specs.Counts.{Increased, Unchanged}
+use Rattle.json_values.specs.SinkState.{SinkState, Adds, AddsProperPrefix}
 use Rattle.oci_transport.specs.Link.{Link}
 use Rattle.oci_transport.specs.declared.message.Exchange.{Exchange}
 use Rattle.oci_link.specs.State.{answering}
-use Rattle.pull_edge.specs.Source.{Spring}
+use Rattle.pull_edge.specs.Source.{SourceState}
 use Rattle.cosign_chain.specs.declared.image.VerifiedImage.{VerifiedImage}
 use Rattle.cosign_rows.specs.declared.refusal.PullRefusal.{PullRefusal}
 use Rattle.generated_image.specs.Shelf.{generated_shelf}
@@ -42,16 +42,16 @@ pub record Generated (n : ℕ) (made : Report) : Type 0 where
   pub refused_is : made.refused ≡ false
 
 -- the output was written whole, or a proper prefix of it
-abbrev pub PutsGenerated : ℕ → (List ℕ → Tray → Tray → Type 0) → Tray → Tray → Type 0
+abbrev pub PutsGenerated : ℕ → (List ℕ → SinkState → SinkState → Type 0) → SinkState → SinkState → Type 0
 PutsGenerated n Out before after = (made : Report) × Generated n made × Out made.bytes before after
 
 -- what the status means; nothing is read, and nothing was written unless it says so
-abbrev pub SaysGenerated : ℕ → Status → Spring → Spring → Tray → Tray → Type 0
-SaysGenerated n status.Done old new before after =
-    (new ≡ old) × PutsGenerated n Adds before after × Stays before.faults after.faults
-SaysGenerated n status.SinkFault old new before after =
-    (new ≡ old) × PutsGenerated n AddsPart before after × Rose before.faults after.faults
-SaysGenerated n status.WantOfMemory old new before after =
+abbrev pub GeneratedStatusMeans : ℕ → Status → SourceState → SourceState → SinkState → SinkState → Type 0
+GeneratedStatusMeans n status.Done old new before after =
+    (new ≡ old) × PutsGenerated n Adds before after × Unchanged before.faults after.faults
+GeneratedStatusMeans n status.SinkFault old new before after =
+    (new ≡ old) × PutsGenerated n AddsProperPrefix before after × Increased before.faults after.faults
+GeneratedStatusMeans n status.WantOfMemory old new before after =
     (new ≡ old)
-    × ((after ≡ before) ⊎ (PutsGenerated n AddsPart before after × Stays before.faults after.faults))
-SaysGenerated n other old new before after = ⊥
+    × ((after ≡ before) ⊎ (PutsGenerated n AddsProperPrefix before after × Unchanged before.faults after.faults))
+GeneratedStatusMeans n other old new before after = ⊥

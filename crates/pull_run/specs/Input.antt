@@ -1,6 +1,6 @@
 -- The input, and how it was read.
 use Rattle.std.specs.Prelude.{◌≡◌, ℕ, List, Option, Some, None, Result, Ok, Err}
-use Rattle.pull_edge.specs.Source.{Spring}
+use Rattle.pull_edge.specs.Source.{SourceState}
 use Rattle.pull_edge.specs.Reading.{Reads}
 use Rattle.pull_edge.specs.declared.reading.ReadRefusal.{ReadRefusal}
 use Rattle.pull_edge.specs.declared.reading.ReadRefusal.TheVariants as read
@@ -12,23 +12,23 @@ abbrev pub input_limit : ℕ
 input_limit = 67108864
 
 -- these bytes are the whole input, which was read to its end and is within the limit
-abbrev pub IsInput : List ℕ → Spring → Spring → Type 0
+abbrev pub IsInput : List ℕ → SourceState → SourceState → Type 0
 IsInput bytes old new = Reads input_limit (Ok bytes) old new
 
 -- it was not read to its end
-abbrev pub IsCut : ReadRefusal → Spring → Spring → Type 0
+abbrev pub IsCut : ReadRefusal → SourceState → SourceState → Type 0
 IsCut refusal old new = Reads input_limit (Err refusal) old new
 
 -- it was read to its end, and does not parse
-abbrev pub IsOther : {X : Type 0} → (List ℕ → Option X) → Spring → Spring → Type 0
+abbrev pub IsOther : {X : Type 0} → (List ℕ → Option X) → SourceState → SourceState → Type 0
 IsOther reads old new = (bytes : List ℕ) × IsInput bytes old new × (reads bytes ≡ None)
 
 -- it was read to its end, and parses as `x`
-abbrev pub IsRead : {X : Type 0} → (List ℕ → Option X) → X → Spring → Spring → Type 0
+abbrev pub IsRead : {X : Type 0} → (List ℕ → Option X) → X → SourceState → SourceState → Type 0
 IsRead reads x old new = (bytes : List ℕ) × IsInput bytes old new × (reads bytes ≡ Some x)
 
 -- what the input parses as, or why that is unknown; memory may run out before or after all is read
-abbrev pub ReadsInput : {X : Type 0} → (List ℕ → Option X) → Result X Status → Spring → Spring → Type 0
+abbrev pub ReadsInput : {X : Type 0} → (List ℕ → Option X) → Result X Status → SourceState → SourceState → Type 0
 ReadsInput reads (Ok x) old new = IsRead reads x old new
 ReadsInput reads (Err status.UnreadableInput) old new = IsOther reads old new
 ReadsInput reads (Err status.SourceFault) old new = IsCut read.SourceFault old new

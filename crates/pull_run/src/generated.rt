@@ -1,9 +1,9 @@
 // The pull of the generated image over its shelf.
 ghost use Rattle.std.specs.Prelude.{◌≡◌, IfOk};
 ghost use Rattle.cosign_rows.specs.Shelves.{OkOrMemory};
-ghost use Rattle.pull_edge.specs.Source.{Spring};
+ghost use Rattle.pull_edge.specs.Source.{SourceState};
 ghost use Rattle.pull_generated.specs.Terms.{IsCount};
-ghost use Rattle.pull_run.specs.Generated.{generated_lines, WritesGenerated, Generated, SaysGenerated};
+ghost use Rattle.pull_run.specs.Generated.{generated_lines, WritesGenerated, Generated, GeneratedStatusMeans};
 
 use crate::output::deliver;
 use crate::status::Status;
@@ -12,7 +12,7 @@ use json_values::{Blob, Sink, write_decimal};
 use oci_link::ShelfTransport;
 use pull_cases::Report;
 use pull_generated::{generated_shelf, pull_generated};
-use pull_report::{let_go, text_line};
+use pull_report::{drop_outcome, text_line};
 use std::alloc::{AllocError, Global};
 
 // The lines of an image that took this number of requests.
@@ -60,14 +60,15 @@ fn generated(alloc: Global, layers: u32) -> Result<Report, AllocError>
     let outcome = pull_generated(alloc, layers, &mut transport);
     let requests = transport.conversation().as_slice().len();
     let report = written(alloc, requests, &outcome);
-    let_go(outcome);
+    drop_outcome(outcome);
     report
 }
 
 /// Writes the output of the pull of the image with `layers` layers.
 pub(crate) fn serve_generated<K: Sink>(alloc: Global, layers: u32, sink: &mut K) -> Status
     requires { IsCount layers }
-    ensures { (spring : Spring) → SaysGenerated layers result spring spring (K.state sink.old) (K.state sink.new) }
+    ensures { (source : SourceState)
+        → GeneratedStatusMeans layers result source source (K.state sink.old) (K.state sink.new) }
 {
     match generated(alloc, layers) {
         Ok(report) => deliver(sink, &report),

@@ -1,7 +1,7 @@
 // From the arguments and the input to the exit status.
 ghost use Rattle.std.specs.Prelude.{◌≡◌, ◌↔◌, None};
 ghost use Rattle.pull_run.specs.Complete.{EndsComplete};
-ghost use Rattle.pull_run.specs.Program.{SaysTask, SaysCommand, Says, EndsUnread, EndsLong, EndsPast};
+ghost use Rattle.pull_run.specs.Program.{TaskStatusMeans, CommandStatusMeans, StatusMeans, EndsUnread, EndsLong, EndsPast};
 ghost use Rattle.pull_run.specs.Task.{task_by, task_of};
 ghost use Rattle.pull_run.specs.Command.{command_of, CountsWell};
 
@@ -20,7 +20,7 @@ use std::alloc::Global;
 
 // Reads the input, computes the task's output, and writes it.
 fn serve<T: Task + Drop, S: Source, K: Sink>(alloc: Global, source: &mut S, sink: &mut K) -> Status
-    ensures { SaysTask (task_by T.reads T.Gives) result
+    ensures { TaskStatusMeans (task_by T.reads T.Gives) result
         (S.state source.old) (S.state source.new) (K.state sink.old) (K.state sink.new) }
 {
     let input: T = match read_input(alloc, source) {
@@ -34,7 +34,7 @@ fn serve<T: Task + Drop, S: Source, K: Sink>(alloc: Global, source: &mut S, sink
 }
 
 fn serve_word<S: Source, K: Sink>(alloc: Global, word: Word, source: &mut S, sink: &mut K) -> Status
-    ensures { SaysTask (task_of word) result
+    ensures { TaskStatusMeans (task_of word) result
         (S.state source.old) (S.state source.new) (K.state sink.old) (K.state sink.new) }
 {
     match word {
@@ -51,7 +51,7 @@ fn serve_command<S: Source, K: Sink>(
     sink: &mut K,
 ) -> Status
     requires { CountsWell command }
-    ensures { SaysCommand command result
+    ensures { CommandStatusMeans command result
         (S.state source.old) (S.state source.new) (K.state sink.old) (K.state sink.new) }
 {
     match command {
@@ -63,7 +63,7 @@ fn serve_command<S: Source, K: Sink>(
 
 /// Runs the program: performs the command that the arguments select, and returns the exit status of the process.
 pub fn run<S: Source, K: Sink>(alloc: Global, words: &[Text], source: &mut S, sink: &mut K) -> u8
-    ensures says { Says words.now result
+    ensures status { StatusMeans words.now result
         (S.state source.old) (S.state source.new) (K.state sink.old) (K.state sink.new) }
     ensures usage { command_of words.now ≡ None ↔ result ≡ 2 }
     ensures unread { EndsUnread words.now result (S.state source.old) (S.state source.new) }

@@ -1,6 +1,6 @@
 -- The client of a program's pulls, given by a recorded case or by a host's settings.
 use Rattle.std.specs.Prelude.{ℕ, Bool, false, Option, Some, None, codes, unwrap_or}
-use Rattle.oci_auth.specs.Memory.{fresh as nothing_kept}
+use Rattle.oci_auth.specs.AuthState.{fresh as nothing_kept}
 use Rattle.oci_engine.specs.declared.config.ClientConfig.{ClientConfig}
 use Rattle.oci_platforms.specs.declared.promise.ResolverPromise.{ResolverPromise}
 use Rattle.engine_terms.specs.declared.settings.ClientProtocol.{ClientProtocol}

@@ -1,8 +1,8 @@
 -- Why each call that pushes was refused, and that a fault of the transport is returned only if its count increased.
 use Rattle.std.proofs.Common.{◌≡◌, ℕ, true, List, Option, Result, Err, IfErr, refl}
-use Rattle.json_values.specs.Counts.{Rose}
+use Rattle.json_values.specs.Counts.{Increased}
 use Rattle.oci_names.specs.declared.reference.Reference.{Reference}
-use Rattle.oci_auth.specs.declared.memory.Memory.{Memory}
+use Rattle.oci_auth.specs.declared.auth_state.AuthState.{AuthState}
 use Rattle.oci_transport.specs.Link.{Link}
 use Rattle.oci_transport.specs.declared.message.Exchange.{Exchange}
 use Rattle.oci_protocol.specs.Runs.{Meets, Told}
@@ -24,23 +24,23 @@ free : (T : List Exchange → List ℕ → Type 0) (Own : OciDistributionError �
 free T Own s c n refusal.WantOfMemory is = tt
 free T Own s c n _ is = absurd (cc is)
 
-last_failed : (T : List Exchange → List ℕ → Type 0) (Own : OciDistributionError → Type 0) (s : Settings) (m n : ℕ) (c : List Exchange) → PushCause T Own s c n refusal.TransportFault → LastIs (λ e. Rose e.faults n) c
+last_failed : (T : List Exchange → List ℕ → Type 0) (Own : OciDistributionError → Type 0) (s : Settings) (m n : ℕ) (c : List Exchange) → PushCause T Own s c n refusal.TransportFault → LastIs (λ e. Increased e.faults n) c
 last_failed T Own s m n c h = record { before = h.before; last = h.last; split = h.split; holds = h.holds.1 }
 
-module _ (T : List Exchange → List ℕ → Type 0) (Own : OciDistributionError → Type 0) (s : Settings) {A : Type 0} (p : Row A) (shown : Shown T Own s (λ c a. Unit {0}) p) {old new : Link} {k l : Memory} where
+module _ (T : List Exchange → List ℕ → Type 0) (Own : OciDistributionError → Type 0) (s : Settings) {A : Type 0} (p : Row A) (shown : Shown T Own s (λ c a. Unit {0}) p) {old new : Link} {k l : AuthState} where
   reason : (r : Result A OciDistributionError) → Meets is_memory p old new k l r → IfErr r (λ e. Told (λ c. PushCause T Own s c new.faults e) old new)
   reason r met = refusal_told (λ m c n a. Unit {0}) (λ m c n e. PushCause T Own s c n e) p (λ m n c e is. free T Own s c n e is) shown met
 
-  fault : (r : Result A OciDistributionError) → Meets is_memory p old new k l r → r ≡ Err refusal.TransportFault → Rose old.faults new.faults
+  fault : (r : Result A OciDistributionError) → Meets is_memory p old new k l r → r ≡ Err refusal.TransportFault → Increased old.faults new.faults
   fault r met is = fault_last (λ m c n a. Unit {0}) (λ m c n e. PushCause T Own s c n e) p refusal.TransportFault refl (last_failed T Own s) shown (rw is at met)
 
 abbrev Why : Context → Reference → Link → Link → (OciDistributionError → Type 0) → {A : Type 0} → Result A OciDistributionError → Type 0
 Why s image old new Own r = IfErr r (λ e. Told (λ c. PushCause (PushText s.settings image) Own s.settings c new.faults e) old new)
 
 abbrev Counted : Link → Link → {A : Type 0} → Result A OciDistributionError → Type 0
-Counted old new r = r ≡ Err refusal.TransportFault → Rose old.faults new.faults
+Counted old new r = r ≡ Err refusal.TransportFault → Increased old.faults new.faults
 
-module _ (s : Context) (image : Reference) {old new : Link} {k l : Memory} where
+module _ (s : Context) (image : Reference) {old new : Link} {k l : AuthState} where
   pub blob_reason : (content digest : List ℕ) (r : Result (List ℕ) OciDistributionError) → Meets is_memory (push_blob s image content digest) old new k l r → Why s image old new (OfBytes content) r
   blob_reason content digest r met = reason (PushText s.settings image) (OfBytes content) s.settings (push_blob s image content digest) (blob_shown s image content digest) r met
 

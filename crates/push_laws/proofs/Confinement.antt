@@ -14,7 +14,7 @@ use Rattle.oci_transport.specs.declared.message.Exchange.{Exchange}
 use Rattle.oci_transport.specs.declared.message.Method.{Method}
 use Rattle.oci_transport.specs.declared.message.Method.TheVariants.{Post, Patch, Put}
 use Rattle.oci_names.specs.declared.reference.Reference.{Reference}
-use Rattle.oci_auth.specs.declared.memory.Memory.{Memory}
+use Rattle.oci_auth.specs.declared.auth_state.AuthState.{AuthState}
 use Rattle.oci_auth.specs.declared.token_type.RegistryOperation.TheVariants.{Push}
 use Rattle.oci_auth.specs.declared.token_type.RegistryTokenType.{RegistryTokenType}
 use Rattle.oci_protocol.specs.Proto.{Reply, Headed, Answered, Failed, TooLong, SinkFailed, Done, bind, unless_refused, ◌>>=◌}
@@ -44,16 +44,16 @@ use Rattle.engine_push.specs.declared.stream.PushBlobStreamChunkedResponse.{Push
 use Rattle.push_laws.proofs.PushedHeaders.{content_made}
 
 -- what a push begins with
-abbrev pub pushing : Memory → Context → Reference → Entry
+abbrev pub pushing : AuthState → Context → Reference → Entry
 pushing k s image = asking k s image Push None
 
 -- for any result
-abbrev pub Kept : Entry → {A : Type 0} → Memory → List Exchange → A → Type 0
+abbrev pub Kept : Entry → {A : Type 0} → AuthState → List Exchange → A → Type 0
 Kept x l c a = Keeps x l c
 
 -- requests are confined, and the client state may be sent
 record Bound (x : Entry) (s : Settings) {A : Type 0} (p : Row A) : Type 0 where
-  safe : (l : Memory) (c : List Exchange) → Keeps x l c → Safe (Carries x s) (Keeps x) (Kept x) l c p
+  safe : (l : AuthState) (c : List Exchange) → Keeps x l c → Safe (Carries x s) (Keeps x) (Kept x) l c p
 
 bound_done : {x : Entry} {s : Settings} {A : Type 0} (r : Result A OciDistributionError) → Bound x s (Done r)
 bound_done {x} {s} r = record { safe = λ l c keeps. safe_done x s (Kept x) l c r keeps }
@@ -78,7 +78,7 @@ module _ (x : Entry) (s : Settings) where
         to : request.url ≡ bare.url → ToRegistry s x.image bare → ToRegistry s x.image request
         to same g = record { registry = g.registry; url = g.url; registry_is = g.registry_is; url_is = ap request_url same ∙ g.url_is; goes = g.goes }
 
-  located_safe : (image : Reference) (expected : ℕ) (request : Request) (l : Memory) (c : List Exchange) → SentBy x s c request → Keeps x l c → Safe (Carries x s) (Keeps x) (Kept x) l c (location_after s image expected request)
+  located_safe : (image : Reference) (expected : ℕ) (request : Request) (l : AuthState) (c : List Exchange) → SentBy x s c request → Keeps x l c → Safe (Carries x s) (Keeps x) (Kept x) l c (location_after s image expected request)
   unfolding location_after
   located_safe image expected request l c sent keeps = safe_follow x s (Kept x) 0 request (unless_success s.max_body_bytes) (location_reply s image expected) l c sent keeps (λ last d e before after other reply h replies. by_reply last reply (d ++ e ∷ []) h) where
     by_reply : (last : Request) (reply : Reply) (d : List Exchange) → Keeps x l d → Safe (Carries x s) (Keeps x) (Kept x) l d (location_reply s image expected last reply)
@@ -88,19 +88,19 @@ module _ (x : Entry) (s : Settings) where
     by_reply last TooLong d h = safe_done x s (Kept x) l d _ h
     by_reply last SinkFailed d h = safe_done x s (Kept x) l d _ h
 
-  with_safe : (image : Reference) (content : Content) (expected : ℕ) (bare : Request) (l : Memory) (c : List Exchange) → SentBy x s c bare → Keeps x l c → (r : Result Request OciDistributionError) → with_content content bare ≡ r → Safe (Carries x s) (Keeps x) (Kept x) l c (Done r >>= location_after s image expected)
+  with_safe : (image : Reference) (content : Content) (expected : ℕ) (bare : Request) (l : AuthState) (c : List Exchange) → SentBy x s c bare → Keeps x l c → (r : Result Request OciDistributionError) → with_content content bare ≡ r → Safe (Carries x s) (Keeps x) (Kept x) l c (Done r >>= location_after s image expected)
   unfolding bind
   with_safe image content expected bare l c sent keeps (Ok request) is = located_safe image expected request l c (carried_on c content bare request is sent) keeps
   with_safe image content expected bare l c sent keeps (Err e) is = safe_done x s (Kept x) l c _ keeps
 
-  made_safe : (image : Reference) (method : Method) (url : Parts) (content : Content) (expected : ℕ) (token : Option RegistryTokenType) (l : Memory) (c : List Exchange) → MayShowAt x s url c token → Keeps x l c → (r : Result Request OciDistributionError) → request_of s method url None token ≡ r
+  made_safe : (image : Reference) (method : Method) (url : Parts) (content : Content) (expected : ℕ) (token : Option RegistryTokenType) (l : AuthState) (c : List Exchange) → MayShowAt x s url c token → Keeps x l c → (r : Result Request OciDistributionError) → request_of s method url None token ≡ r
       → Safe (Carries x s) (Keeps x) (Kept x) l c (Done r >>= λ request. Done (with_content content request) >>= location_after s image expected)
   unfolding bind
   made_safe image method url content expected token l c shown keeps (Ok request) is =
       with_safe image content expected request l c (subst (Each (SentValue x s c request)) (sym (request_values s method url None token request is)) (sent_by x s url c request token (request_url_is s method url None token request is) shown)) keeps (with_content content request) refl
   made_safe image method url content expected token l c shown keeps (Err e) is = safe_done x s (Kept x) l c _ keeps
 
-module _ (k : Memory) (s : Context) (image : Reference) where
+module _ (k : AuthState) (s : Context) (image : Reference) where
   abbrev X : Entry
   X = pushing k s image
 
@@ -113,7 +113,7 @@ module _ (k : Memory) (s : Context) (image : Reference) where
     safe = λ l c keeps. Safe-bind (Carries X s.settings) (Keeps X) (λ l c r. Keeps X l c × AuthorizedAt X s.settings [] url l c r) (Kept X) (authorized s image Push url) _ l c
         (Safe-keeps (Carries X s.settings) (Keeps X) (AuthorizedAt X s.settings [] url) (authorized s image Push url) l c (keeps_more X) keeps (authorized_safe X s.settings [] url l c keeps)) (λ l c r h. by_token l c r h);
   } where
-    by_token : (l : Memory) (c : List Exchange) (r : Result (Option RegistryTokenType) OciDistributionError) → Keeps X l c × AuthorizedAt X s.settings [] url l c r
+    by_token : (l : AuthState) (c : List Exchange) (r : Result (Option RegistryTokenType) OciDistributionError) → Keeps X l c × AuthorizedAt X s.settings [] url l c r
         → Safe (Carries X s.settings) (Keeps X) (Kept X) l c (unless_refused (λ token. Done (request_of s.settings method url None token) >>= λ request. Done (with_content content request) >>= location_after s.settings image expected) r)
     by_token l c (Ok token) h = made_safe X s.settings image method url content expected token l c h.1.1 h.0 (request_of s.settings method url None token) refl
     by_token l c (Err e) h = safe_done X s.settings (Kept X) l c (Err e) h.0
@@ -213,17 +213,17 @@ module _ (k : Memory) (s : Context) (image : Reference) where
 
 -- ---- the exposed exchanges
 
-confines : {A : Type 0} (s : Context) (image : Reference) (p : Row A) {old new : Link} {k l : Memory} {r : Result A OciDistributionError} → Bound (pushing k s image) s.settings p → Meets is_memory p old new k l r → Told (Within (pushing k s image) s.settings l) old new
+confines : {A : Type 0} (s : Context) (image : Reference) (p : Row A) {old new : Link} {k l : AuthState} {r : Result A OciDistributionError} → Bound (pushing k s image) s.settings p → Meets is_memory p old new k l r → Told (Within (pushing k s image) s.settings l) old new
 confines s image p {k = k} {l = l} bound met = let x = pushing k s image in call_within x s.settings (Kept x) l (bound.safe k [] (keeps_first x)) met
 
-pub blob_confined : (s : Context) (image : Reference) (content digest : List ℕ) {old new : Link} {k l : Memory} {r : Result (List ℕ) OciDistributionError} → Meets is_memory (push_blob s image content digest) old new k l r → Told (Within (pushing k s image) s.settings l) old new
+pub blob_confined : (s : Context) (image : Reference) (content digest : List ℕ) {old new : Link} {k l : AuthState} {r : Result (List ℕ) OciDistributionError} → Meets is_memory (push_blob s image content digest) old new k l r → Told (Within (pushing k s image) s.settings l) old new
 blob_confined s image content digest {k = k} met = confines s image (push_blob s image content digest) (blob_bound k s image content digest) met
 
-pub stream_confined : (s : Context) (image : Reference) (digest : List ℕ) (size : Option ℕ) {old new : Link} {k l : Memory} {r : Result (List ℕ) OciDistributionError} → Meets is_memory (push_blob_stream s image digest size) old new k l r → Told (Within (pushing k s image) s.settings l) old new
+pub stream_confined : (s : Context) (image : Reference) (digest : List ℕ) (size : Option ℕ) {old new : Link} {k l : AuthState} {r : Result (List ℕ) OciDistributionError} → Meets is_memory (push_blob_stream s image digest size) old new k l r → Told (Within (pushing k s image) s.settings l) old new
 stream_confined s image digest size {k = k} met = confines s image (push_blob_stream s image digest size) (stream_bound k s image digest size) met
 
-pub named_confined : (s : Context) (image : Reference) {old new : Link} {k l : Memory} {r : Result PushBlobStreamChunkedResponse OciDistributionError} → Meets is_memory (push_blob_stream_chunked s image) old new k l r → Told (Within (pushing k s image) s.settings l) old new
+pub named_confined : (s : Context) (image : Reference) {old new : Link} {k l : AuthState} {r : Result PushBlobStreamChunkedResponse OciDistributionError} → Meets is_memory (push_blob_stream_chunked s image) old new k l r → Told (Within (pushing k s image) s.settings l) old new
 named_confined s image {k = k} met = confines s image (push_blob_stream_chunked s image) (named_bound k s image) met
 
-pub mount_confined : (s : Context) (image source : Reference) (digest : List ℕ) {old new : Link} {k l : Memory} {r : Result (Unit {0}) OciDistributionError} → Meets is_memory (mount_blob s image source digest) old new k l r → Told (Within (pushing k s image) s.settings l) old new
+pub mount_confined : (s : Context) (image source : Reference) (digest : List ℕ) {old new : Link} {k l : AuthState} {r : Result (Unit {0}) OciDistributionError} → Meets is_memory (mount_blob s image source digest) old new k l r → Told (Within (pushing k s image) s.settings l) old new
 mount_confined s image source digest {k = k} met = confines s image (mount_blob s image source digest) (mount_bound k s image source digest) met

@@ -6,7 +6,7 @@ use Rattle.std.proofs.lemmas.List.Elements.{Contains-append_left, Contains-appen
 use Rattle.std.proofs.lemmas.Bool.Decides.{nat_tests}
 use Rattle.url.specs.Parts.{Parts}
 use Rattle.oci_names.specs.declared.reference.Reference.{Reference}
-use Rattle.oci_auth.specs.declared.memory.Memory.{Memory}
+use Rattle.oci_auth.specs.declared.auth_state.AuthState.{AuthState}
 use Rattle.oci_auth.specs.declared.token_type.RegistryOperation.TheVariants.{Push}
 use Rattle.oci_auth.specs.declared.token_type.RegistryTokenType.{RegistryTokenType}
 use Rattle.oci_transport.specs.Headers.{first_of, is_text}
@@ -20,9 +20,9 @@ use Rattle.oci_transport.specs.declared.message.Method.{Method}
 use Rattle.oci_protocol.specs.Proto.{Reading, Unread, Within, Piped, limit_of, Reply, Headed, Answered, Failed, TooLong, SinkFailed, Done, ◌>>=◌}
 use Rattle.oci_protocol.specs.Follow.{Trail}
 use Rattle.oci_protocol.specs.Runs.{Runs, head_part}
-use Rattle.oci_protocol.specs.Shows.{Shows, Heard, ByAnswer}
+use Rattle.oci_protocol.specs.EveryRun.{EveryRun, Heard, ByResult}
 use Rattle.oci_protocol.proofs.Ends.{Runs-ends}
-use Rattle.oci_protocol.proofs.RunFacts.{done_run, Shows-done, Shows-more, Shows-each, Shows-step, Shows-follow}
+use Rattle.oci_protocol.proofs.RunFacts.{done_run, EveryRun-done, EveryRun-more, EveryRun-each, EveryRun-step, EveryRun-follow}
 use Rattle.engine_terms.specs.Contexts.{Context}
 use Rattle.engine_terms.specs.Error.{◌>>=◌ as ◌into◌}
 use Rattle.engine_terms.specs.declared.error.GenericCause.TheVariants.{HeaderText}
@@ -85,30 +85,30 @@ cause_after T Own s c d n _ (inr h) = inr (last_after c h)
 
 -- T holds for the exchanges of an `Ok`, and a refusal has its cause
 abbrev pub Shown : (List Exchange → List ℕ → Type 0) → (OciDistributionError → Type 0) → Settings → {A : Type 0} → (List Exchange → A → Type 0) → Row A → Type 0
-Shown T Own s P p = Shows (ByAnswer (λ m c n a. P c a) (λ m c n e. PushCause T Own s c n e)) p
+Shown T Own s P p = EveryRun (ByResult (λ m c n a. P c a) (λ m c n e. PushCause T Own s c n e)) p
 
 pub shown_next : {A B : Type 0} (T : List Exchange → List ℕ → Type 0) (Own : OciDistributionError → Type 0) (s : Settings) (P : List Exchange → A → Type 0) (Q : List Exchange → B → Type 0) (p : Row A) (f : A → Row B)
     → Shown T Own s P p → ((c : List Exchange) (a : A) → P c a → Shown (λ d. T (c ++ d)) Own s (λ d b. Q (c ++ d) b) (f a)) → Shown T Own s Q (p >>= f)
-shown_next {A} {B} T Own s P Q p f first each = Shows-each (λ m c n a. P c a) (λ m c n b. Q c b) (λ m c n e. PushCause T Own s c n e) p f first (λ m n c a h.
-    Shows-more (ByAnswer (λ m d n b. Q (c ++ d) b) (λ m d n e. PushCause (λ d. T (c ++ d)) Own s d n e)) (λ start d o r. ByAnswer (λ m c n b. Q c b) (λ m c n e. PushCause T Own s c n e) m (c ++ d) o r) (f a) (each c a h) (λ start o d r g. by_answer m start c d o r g)) where
-      by_answer : (m start : ℕ) (c d : List Exchange) (o : ℕ) (r : Result B OciDistributionError) → ByAnswer (λ m d n b. Q (c ++ d) b) (λ m d n e. PushCause (λ d. T (c ++ d)) Own s d n e) start d o r → ByAnswer (λ m c n b. Q c b) (λ m c n e. PushCause T Own s c n e) m (c ++ d) o r
+shown_next {A} {B} T Own s P Q p f first each = EveryRun-each (λ m c n a. P c a) (λ m c n b. Q c b) (λ m c n e. PushCause T Own s c n e) p f first (λ m n c a h.
+    EveryRun-more (ByResult (λ m d n b. Q (c ++ d) b) (λ m d n e. PushCause (λ d. T (c ++ d)) Own s d n e)) (λ start d o r. ByResult (λ m c n b. Q c b) (λ m c n e. PushCause T Own s c n e) m (c ++ d) o r) (f a) (each c a h) (λ start o d r g. by_answer m start c d o r g)) where
+      by_answer : (m start : ℕ) (c d : List Exchange) (o : ℕ) (r : Result B OciDistributionError) → ByResult (λ m d n b. Q (c ++ d) b) (λ m d n e. PushCause (λ d. T (c ++ d)) Own s d n e) start d o r → ByResult (λ m c n b. Q c b) (λ m c n e. PushCause T Own s c n e) m (c ++ d) o r
       by_answer m start c d o (Ok b) g = g
       by_answer m start c d o (Err e) g = cause_after T Own s c d o e g
 
 -- after these exchanges
 pub shown_named : (T : List Exchange → List ℕ → Type 0) (Own : OciDistributionError → Type 0) (s : Settings) (image : Reference) (c : List Exchange) (p : Row (List ℕ)) → Shown T Own s (Named s image) p → Shown T Own s (λ d location. Named s image (c ++ d) location) p
-shown_named T Own s image c p h = Shows-more (ByAnswer (λ m d n a. Named s image d a) (λ m d n e. PushCause T Own s d n e)) (ByAnswer (λ m d n a. Named s image (c ++ d) a) (λ m d n e. PushCause T Own s d n e)) p h by_answer where
-  by_answer : (m n : ℕ) (d : List Exchange) (r : Result (List ℕ) OciDistributionError) → ByAnswer (λ m d n a. Named s image d a) (λ m d n e. PushCause T Own s d n e) m d n r → ByAnswer (λ m d n a. Named s image (c ++ d) a) (λ m d n e. PushCause T Own s d n e) m d n r
+shown_named T Own s image c p h = EveryRun-more (ByResult (λ m d n a. Named s image d a) (λ m d n e. PushCause T Own s d n e)) (ByResult (λ m d n a. Named s image (c ++ d) a) (λ m d n e. PushCause T Own s d n e)) p h by_answer where
+  by_answer : (m n : ℕ) (d : List Exchange) (r : Result (List ℕ) OciDistributionError) → ByResult (λ m d n a. Named s image d a) (λ m d n e. PushCause T Own s d n e) m d n r → ByResult (λ m d n a. Named s image (c ++ d) a) (λ m d n e. PushCause T Own s d n e) m d n r
   by_answer m n d (Ok location) g = named_after c g
   by_answer m n d (Err e) g = g
 
 -- a step without a request
 pub shown_step : {A B : Type 0} (T : List Exchange → List ℕ → Type 0) (Own : OciDistributionError → Type 0) (s : Settings) (Q : List Exchange → B → Type 0) (r : Result A OciDistributionError) (f : A → Row B)
     → ((a : A) → r ≡ Ok a → Shown T Own s Q (f a)) → ((e : OciDistributionError) → r ≡ Err e → (n : ℕ) → PushCause T Own s [] n e) → Shown T Own s Q (Done r >>= f)
-shown_step T Own s Q r f each refused = Shows-step (ByAnswer (λ m c n b. Q c b) (λ m c n e. PushCause T Own s c n e)) r f each refused
+shown_step T Own s Q r f each refused = EveryRun-step (ByResult (λ m c n b. Q c b) (λ m c n e. PushCause T Own s c n e)) r f each refused
 
 pub shown_done : {A : Type 0} (T : List Exchange → List ℕ → Type 0) (Own : OciDistributionError → Type 0) (s : Settings) (Q : List Exchange → A → Type 0) (a : A) → Q [] a → Shown T Own s Q (Done (Ok a))
-shown_done T Own s Q a h = Shows-done (ByAnswer (λ m c n b. Q c b) (λ m c n e. PushCause T Own s c n e)) (Ok a) (λ m. h)
+shown_done T Own s Q a h = EveryRun-done (ByResult (λ m c n b. Q c b) (λ m c n e. PushCause T Own s c n e)) (Ok a) (λ m. h)
 
 url_none : (text : List ℕ) (e : OciDistributionError) (o : Option Parts) → url_or text o ≡ Err e → (o ≡ None) × (e ≡ refusal.UrlParseError text)
 url_none text e None refused = let same : refusal.UrlParseError text ≡ e = cc refused in (refl, sym same)
@@ -154,7 +154,7 @@ contains_last c e = Contains-append_right c (e ∷ []) e (0, omega arith, refl)
 
 module _ (T : List Exchange → List ℕ → Type 0) (Own : OciDistributionError → Type 0) (s : Settings) (image : Reference) (expected : ℕ) where
   abbrev Q : ℕ → List Exchange → ℕ → Result (List ℕ) OciDistributionError → Type 0
-  Q = ByAnswer (λ m c n location. Named s image c location) (λ m c n e. PushCause T Own s c n e)
+  Q = ByResult (λ m c n location. Named s image c location) (λ m c n e. PushCause T Own s c n e)
 
   -- the last response shows what is refused
   refused_last : (redirects : List Exchange) (exchange : Exchange) (answer : Answer) (e : OciDistributionError) → IsPushed exchange.request.method → exchange.answer ≡ Some answer → ShownBy e exchange.request.url answer → LastIs (AnsweredPush (ShownBy e)) (redirects ++ exchange ∷ [])
@@ -182,7 +182,7 @@ module _ (T : List Exchange → List ℕ → Type 0) (Own : OciDistributionError
   unfolding located
   headed redirects exchange head body url m n url_is pushed answered success = by_status redirects exchange (answer_of head body) url m n (nat_eq head.status expected) refl url_is pushed answered success
 
-  location_run : (request : Request) → IsPushed request.method → (k l : Memory) (m after o : ℕ) (c d : List Exchange) (last : Request) (reply : Reply) (r : Result (List ℕ) OciDistributionError) → Heard 0 request (unless_success s.max_body_bytes) m c after last reply → Runs (location_reply s image expected last reply) k after d o l r → Q m (c ++ d) o r
+  location_run : (request : Request) → IsPushed request.method → (k l : AuthState) (m after o : ℕ) (c d : List Exchange) (last : Request) (reply : Reply) (r : Result (List ℕ) OciDistributionError) → Heard 0 request (unless_success s.max_body_bytes) m c after last reply → Runs (location_reply s image expected last reply) k after d o l r → Q m (c ++ d) o r
   location_run request pushed k l m after o c d last reply r h run = by_reply reply h run where
     pushed_last : (reply : Reply) (h : Heard 0 request (unless_success s.max_body_bytes) m c after last reply) → IsPushed h.exchange.request.method
     pushed_last reply h = subst IsPushed (sym (ap (λ (q : Request). q.method) (same_request request last m after c reply h))) pushed
@@ -212,7 +212,7 @@ module _ (T : List Exchange → List ℕ → Type 0) (Own : OciDistributionError
 
   location_shown : (request : Request) → IsPushed request.method → Shown T Own s (Named s image) (location_after s image expected request)
   unfolding location_after
-  location_shown request pushed = Shows-follow Q 0 request (unless_success s.max_body_bytes) (location_reply s image expected) (location_run request pushed)
+  location_shown request pushed = EveryRun-follow Q 0 request (unless_success s.max_body_bytes) (location_reply s image expected) (location_run request pushed)
 
 -- ---- what comes before it: the token step, and building the request
 
@@ -228,7 +228,7 @@ module _ (s : Context) (image : Reference) (Own : OciDistributionError → Type 
     by_cause n c refusal.WantOfMemory h = tt
     by_cause n c _ h = absurd h
 
-    by_answer : (m n : ℕ) (c : List Exchange) (r : Result (Option RegistryTokenType) OciDistributionError) → NoRegistry s.settings image r → ByAnswer (λ m c n token. Unit {0}) (λ m c n e. PushCause T Own s.settings c n e) m c n r
+    by_answer : (m n : ℕ) (c : List Exchange) (r : Result (Option RegistryTokenType) OciDistributionError) → NoRegistry s.settings image r → ByResult (λ m c n token. Unit {0}) (λ m c n e. PushCause T Own s.settings c n e) m c n r
     by_answer m n c (Ok token) h = tt
     by_answer m n c (Err e) h = by_cause n c e h
 

@@ -8,11 +8,11 @@ use Rattle.oci_names.specs.declared.reference.Reference.{Reference}
 use Rattle.oci_transport.specs.declared.message.Exchange.{Exchange}
 use Rattle.oci_transport.specs.declared.message.Method.TheVariants.{Post, Patch, Put}
 use Rattle.oci_protocol.specs.Proto.{Done, bind, ◌>>=◌}
-use Rattle.oci_protocol.specs.Shows.{Shows, ByAnswer}
+use Rattle.oci_protocol.specs.EveryRun.{EveryRun, ByResult}
 use Rattle.oci_protocol.specs.Runs.{Runs}
 use Rattle.oci_protocol.proofs.Parts.{Runs-parts}
-use Rattle.oci_protocol.proofs.RunFacts.{done_run, Shows-done, Shows-more, Shows-consult}
-use Rattle.oci_auth.specs.declared.memory.Memory.{Memory}
+use Rattle.oci_protocol.proofs.RunFacts.{done_run, EveryRun-done, EveryRun-more, EveryRun-consult}
+use Rattle.oci_auth.specs.declared.auth_state.AuthState.{AuthState}
 use Rattle.engine_terms.specs.Contexts.{Context}
 use Rattle.engine_terms.specs.declared.error.GenericCause.TheVariants.{NoSize, SizeDiffers}
 use Rattle.engine_terms.specs.declared.error.OciDistributionError.{OciDistributionError}
@@ -29,8 +29,8 @@ use Rattle.push_laws.proofs.RequestCauses.{Texts, call_texts, texts_after, cause
 
 -- what holds for a larger set of texts holds for a smaller one
 shown_more : {A : Type 0} (T : List Exchange → List ℕ → Type 0) (Own : OciDistributionError → Type 0) (s : Settings) (P Q : List Exchange → A → Type 0) (p : Row A) → ((c : List Exchange) (a : A) → P c a → Q c a) → Shown T Own s P p → Shown T Own s Q p
-shown_more {A} T Own s P Q p more h = Shows-more (ByAnswer (λ m c n a. P c a) (λ m c n e. PushCause T Own s c n e)) (ByAnswer (λ m c n a. Q c a) (λ m c n e. PushCause T Own s c n e)) p h by_answer where
-  by_answer : (m n : ℕ) (c : List Exchange) (r : Result A OciDistributionError) → ByAnswer (λ m c n a. P c a) (λ m c n e. PushCause T Own s c n e) m c n r → ByAnswer (λ m c n a. Q c a) (λ m c n e. PushCause T Own s c n e) m c n r
+shown_more {A} T Own s P Q p more h = EveryRun-more (ByResult (λ m c n a. P c a) (λ m c n e. PushCause T Own s c n e)) (ByResult (λ m c n a. Q c a) (λ m c n e. PushCause T Own s c n e)) p h by_answer where
+  by_answer : (m n : ℕ) (c : List Exchange) (r : Result A OciDistributionError) → ByResult (λ m c n a. P c a) (λ m c n e. PushCause T Own s c n e) m c n r → ByResult (λ m c n a. Q c a) (λ m c n e. PushCause T Own s c n e) m c n r
   by_answer m n c (Ok a) g = more c a g
   by_answer m n c (Err e) g = g
 
@@ -107,7 +107,7 @@ module _ (s : Context) (image : Reference) (content digest : List ℕ) where
   T = PushText s.settings image
 
   abbrev Answers : ℕ → List Exchange → ℕ → Result (List ℕ) OciDistributionError → Type 0
-  Answers = ByAnswer (λ m c n location. T c location) (λ m c n e. PushCause T Of s.settings c n e)
+  Answers = ByResult (λ m c n location. T c location) (λ m c n e. PushCause T Of s.settings c n e)
 
   -- in either way
   pub blob_shown : Shown (PushText s.settings image) Of s.settings (λ c location. Unit {0}) (push_blob s image content digest)
@@ -116,15 +116,15 @@ module _ (s : Context) (image : Reference) (content digest : List ℕ) where
     texts : Texts s.settings image T
     texts = call_texts s.settings image
 
-    behind : (m start : ℕ) (c d : List Exchange) (o : ℕ) (r : Result (List ℕ) OciDistributionError) → ByAnswer (λ m d n location. T (c ++ d) location) (λ m d n e. PushCause (λ d. T (c ++ d)) Of s.settings d n e) start d o r → Answers m (c ++ d) o r
+    behind : (m start : ℕ) (c d : List Exchange) (o : ℕ) (r : Result (List ℕ) OciDistributionError) → ByResult (λ m d n location. T (c ++ d) location) (λ m d n e. PushCause (λ d. T (c ++ d)) Of s.settings d n e) start d o r → Answers m (c ++ d) o r
     behind m start c d o (Ok location) g = g
     behind m start c d o (Err e) g = cause_after T Of s.settings c d o e g
 
-    again : (m n : ℕ) (c : List Exchange) → Shows (λ start d o r. Answers m (c ++ d) o r) (push_whole s image content digest)
-    again m n c = Shows-more (ByAnswer (λ m d n location. T (c ++ d) location) (λ m d n e. PushCause (λ d. T (c ++ d)) Of s.settings d n e)) (λ start d o r. Answers m (c ++ d) o r) (push_whole s image content digest) (whole_leads (λ d. T (c ++ d)) (texts_after c texts)) (λ start o d r g. behind m start c d o r g)
+    again : (m n : ℕ) (c : List Exchange) → EveryRun (λ start d o r. Answers m (c ++ d) o r) (push_whole s image content digest)
+    again m n c = EveryRun-more (ByResult (λ m d n location. T (c ++ d) location) (λ m d n e. PushCause (λ d. T (c ++ d)) Of s.settings d n e)) (λ start d o r. Answers m (c ++ d) o r) (push_whole s image content digest) (whole_leads (λ d. T (c ++ d)) (texts_after c texts)) (λ start o d r g. behind m start c d o r g)
 
     -- what the second part computes from the result of the first
-    by_result : (m n : ℕ) (c : List Exchange) (r : Result (List ℕ) OciDistributionError) → Answers m c n r → (k l : Memory) (d : List Exchange) (o : ℕ) (b : Result (List ℕ) OciDistributionError) → Runs (or_whole (push_whole s image content digest) r) k n d o l b → Answers m (c ++ d) o b
+    by_result : (m n : ℕ) (c : List Exchange) (r : Result (List ℕ) OciDistributionError) → Answers m c n r → (k l : AuthState) (d : List Exchange) (o : ℕ) (b : Result (List ℕ) OciDistributionError) → Runs (or_whole (push_whole s image content digest) r) k n d o l b → Answers m (c ++ d) o b
     by_result m n c (Ok location) h k l d o b run = done_run (λ start d o b. Answers m (c ++ d) o b) _ k l n o d b (rw append-nil h) run
     by_result m n c (Err e) h k l d o b run = by_test (is_violation e) run where
       by_test : (violates : Bool) → Runs (if violates then push_whole s image content digest else Done (Err e)) k n d o l b → Answers m (c ++ d) o b
@@ -147,10 +147,10 @@ module _ (s : Context) (image : Reference) (content digest : List ℕ) where
 module _ (s : Context) (image : Reference) (Own : OciDistributionError → Type 0) (fails : Own refusal.SourceFault) (too_long : Own refusal.BodyTooLong) where
   piece_tells : (T : List Exchange → List ℕ → Type 0) → Tells s image Own T (λ c piece. Unit {0}) next_piece
   unfolding next_piece
-  piece_tells T = Shows-consult (ByAnswer (λ m c n piece. Unit {0}) (λ m c n e. PushCause T Own s.settings c n e)) (λ said. Done (piece_of said)) by_said where
-    by_said : (said : Option (List ℕ)) → Shows {K = Memory} (ByAnswer (λ m c n piece. Unit {0}) (λ m c n e. PushCause T Own s.settings c n e)) (Done (piece_of said))
-    by_said None = Shows-done _ (Err refusal.SourceFault) (λ m. inl fails)
-    by_said (Some piece) = Shows-done _ (Ok piece) (λ m. tt)
+  piece_tells T = EveryRun-consult (ByResult (λ m c n piece. Unit {0}) (λ m c n e. PushCause T Own s.settings c n e)) (λ said. Done (piece_of said)) by_said where
+    by_said : (said : Option (List ℕ)) → EveryRun {K = AuthState} (ByResult (λ m c n piece. Unit {0}) (λ m c n e. PushCause T Own s.settings c n e)) (Done (piece_of said))
+    by_said None = EveryRun-done _ (Err refusal.SourceFault) (λ m. inl fails)
+    by_said (Some piece) = EveryRun-done _ (Ok piece) (λ m. tt)
 
   longer : (T : List Exchange → List ℕ → Type 0) (left : ℕ) (piece : List ℕ) (e : OciDistributionError) → no_longer left piece ≡ Err e → (n : ℕ) → PushCause T Own s.settings [] n e
   longer T left piece e is n = by_test (nat_lt left (length piece)) is where
@@ -168,7 +168,7 @@ module _ (s : Context) (image : Reference) (Own : OciDistributionError → Type 
 
   pieces_tell : (T : List Exchange → List ℕ → Type 0) → Texts s.settings image T → (n left : ℕ) (location bytes : List ℕ) → T [] location → Tells s image Own T (Goes T) (pieces_sent n left s image location bytes)
   unfolding pieces_sent
-  pieces_tell T texts zero left location bytes here = Shows-done _ (Err refusal.BodyTooLong) (λ m. inl too_long)
+  pieces_tell T texts zero left location bytes here = EveryRun-done _ (Err refusal.BodyTooLong) (λ m. inl too_long)
   pieces_tell T texts (suc n) left location bytes here = shown_next T Own s.settings (λ c piece. Unit {0}) (Goes T) next_piece _ (piece_tells T) (λ c piece u.
       let U : List Exchange → List ℕ → Type 0 = λ d. T (c ++ d) in
       let later = texts_after c texts in
@@ -180,7 +180,7 @@ module _ (s : Context) (image : Reference) (Own : OciDistributionError → Type 
 
   read_tells : (T : List Exchange → List ℕ → Type 0) → (n left : ℕ) (bytes : List ℕ) → Tells s image Own T (λ c bytes. Unit {0}) (pieces_read n left bytes)
   unfolding pieces_read
-  read_tells T zero left bytes = Shows-done _ (Err refusal.BodyTooLong) (λ m. inl too_long)
+  read_tells T zero left bytes = EveryRun-done _ (Err refusal.BodyTooLong) (λ m. inl too_long)
   read_tells T (suc n) left bytes = shown_next T Own s.settings (λ c piece. Unit {0}) (λ c bytes. Unit {0}) next_piece _ (piece_tells T) (λ c piece u.
       let U : List Exchange → List ℕ → Type 0 = λ d. T (c ++ d) in
       shown_step U Own s.settings (λ d bytes. Unit {0}) (no_longer left piece) _ (λ piece is. last_tells U (λ d bytes. Unit {0}) piece _ _ (shown_done U Own s.settings (λ d bytes. Unit {0}) bytes tt) (read_tells U n (left - length piece) (bytes ++ piece))) (longer U left piece))

@@ -2,7 +2,7 @@
 use Rattle.std.specs.Prelude.{◌≡◌, ◌≢◌, ◌<◌, ◌⊎◌, ℕ, true, false, List, [], Option, Some, None, Err, codes, length}
 use Rattle.std.specs.List.{Contains}
 use Rattle.url.specs.Parts.{Parts}
-use Rattle.json_values.specs.Counts.{Rose}
+use Rattle.json_values.specs.Counts.{Increased}
 use Rattle.oci_names.specs.declared.reference.Reference.{Reference}
 use Rattle.oci_auth.specs.declared.token_type.RegistryTokenType.{RegistryTokenType}
 use Rattle.oci_transport.specs.Headers.{first_of, is_text}
@@ -73,7 +73,7 @@ abbrev pub PushCause : (List Exchange → List ℕ → Type 0) → (OciDistribut
     → List Exchange → ℕ → OciDistributionError → Type 0
 PushCause Text Own s c now (refusal.UrlParseError text) = (request_url text ≡ None) × Text c text
 PushCause Text Own s c now (refusal.GenericError HeaderText) = CannotBeMade s
-PushCause Text Own s c now refusal.TransportFault = LastIs (λ e. IsPushed e.request.method × Rose e.faults now) c
+PushCause Text Own s c now refusal.TransportFault = LastIs (λ e. IsPushed e.request.method × Increased e.faults now) c
 PushCause Text Own s c now refusal.BodyTooLong = Own refusal.BodyTooLong
     ⊎ LastIs (AnsweredPush (λ address answer. s.max_body_bytes < length answer.body)) c
 PushCause Text Own s c now refusal.WantOfMemory = Unit {0}

@@ -157,7 +157,7 @@ fn is_linked(
 }
 
 // Drops a pulled image in a function without other facts.
-fn let_image_go(_found: Result<VerifiedImage, PullRefusal>) {}
+fn drop_image(_found: Result<VerifiedImage, PullRefusal>) {}
 
 fn links_over(
     alloc: Global,
@@ -168,7 +168,7 @@ fn links_over(
     let other = OciReference::parse(alloc, OTHER).ok()?;
     let found = pull(alloc, client, script, asked);
     let linked = is_linked(&found, asked, &other);
-    let_image_go(found);
+    drop_image(found);
     Some(linked)
 }
 
@@ -204,7 +204,7 @@ fn counts(found: &Result<TrustedLayers, SigstoreError>) -> Option<(usize, usize)
 }
 
 // Drops what was found in a function without other facts.
-fn let_go(_found: Result<TrustedLayers, SigstoreError>) {}
+fn drop_found(_found: Result<TrustedLayers, SigstoreError>) {}
 
 fn searched(
     alloc: Global,
@@ -222,7 +222,7 @@ fn searched(
         &NoCertificates,
     );
     let counted = counts(&found);
-    let_go(found);
+    drop_found(found);
     counted
 }
 
@@ -260,7 +260,7 @@ fn names_tag(found: &Result<(OciReference, Text), SigstoreError>) -> Option<bool
     }
 }
 
-fn let_tag_go(_found: Result<(OciReference, Text), SigstoreError>) {}
+fn drop_tag(_found: Result<(OciReference, Text), SigstoreError>) {}
 
 fn is_tag(
     alloc: Global,
@@ -270,7 +270,7 @@ fn is_tag(
 ) -> Option<bool> {
     let found = client.triangulate(alloc, script, 100, image, &Auth::Anonymous);
     let named = names_tag(&found);
-    let_tag_go(found);
+    drop_tag(found);
     named
 }
 

@@ -26,10 +26,10 @@ use Rattle.oci_transport.specs.declared.message.Answer.{Answer}
 use Rattle.oci_transport.specs.declared.message.Method.{Method}
 use Rattle.oci_transport.specs.declared.message.Method.TheVariants.{Get, Head}
 use Rattle.oci_auth.specs.declared.auth.RegistryAuth.{RegistryAuth}
-use Rattle.oci_auth.specs.declared.memory.Memory.{Memory}
+use Rattle.oci_auth.specs.declared.auth_state.AuthState.{AuthState}
 use Rattle.oci_protocol.specs.Proto.{Reading, Unread, Within, Done, read_within, ◌>>=◌}
 use Rattle.oci_protocol.specs.Runs.{head_part}
-use Rattle.oci_protocol.specs.Drive.{reply_of}
+use Rattle.oci_protocol.specs.Evaluation.{reply_of}
 use Rattle.oci_link.specs.PlainPaths.{Segment, PlainPath}
 use Rattle.oci_link.specs.Table.{answer, with_header, with_digest, not_found, document_answer, digest_answer, digest_named, manifest_answer, is_colon, bytes_answer, blob_answer, is_get_or_head}
 use Rattle.oci_link.specs.declared.shelf.Shelf.{Shelf}
@@ -54,12 +54,12 @@ use Rattle.engine_rows.specs.Rows.{Row, whole_reply, whole, reading_named, named
 use Rattle.engine_rows.specs.Offers.{offer_reading, offer_reply, offer, tried}
 use Rattle.engine_rows.specs.Blobs.{IntoMemory, reading_by, blob_reading, read_by, blob_reply, attempt}
 use Rattle.engine_rows.specs.Pulls.{document, manifest_document, pull_manifest_raw, digest_by, fetch_manifest_digest, blob_to, held_blob}
-use Rattle.shelf_laws.specs.Comes.{Comes, Yields, Gives, IsHeld}
-use Rattle.shelf_laws.specs.Home.{front_of, Home, IsAt, CanBeShown, Settled}
-use Rattle.shelf_laws.specs.Shelves.{IsShort, HasDocument, HasBlob}
-use Rattle.shelf_laws.proofs.TableSteps.{Gives-done, Gives-next}
+use Rattle.shelf_laws.specs.EvaluatesWith.{EvaluatesWith, Yields, AlwaysOk, IsHeld}
+use Rattle.shelf_laws.specs.IsHosted.{base_of, IsHosted, IsAt, CanBeShown, Settled}
+use Rattle.shelf_laws.specs.Shelves.{FitsLimit, HasDocument, HasBlob}
+use Rattle.shelf_laws.proofs.TableSteps.{AlwaysOk-done, AlwaysOk-next}
 use Rattle.shelf_laws.proofs.DigestTexts.{digest_all, is_lower_digit}
-use Rattle.shelf_laws.proofs.ShelfRedirects.{none_held, Answers, Comes-led}
+use Rattle.shelf_laws.proofs.ShelfRedirects.{none_held, Answers, EvaluatesWith-led}
 use Rattle.shelf_laws.proofs.PlainNames.{digest_segment, item_plain}
 use Rattle.shelf_laws.proofs.Places.{item_path, answers_manifest, answers_blob, manifest_text_is, blob_text_is}
 use Rattle.shelf_laws.proofs.Requests.{yields_ok, IsFor, url_reads, within_reads}
@@ -219,8 +219,8 @@ blob_read digest url a bytes x is good =
 
 -- ---- the rows
 
-module _ {s : Settings} {registry : List ℕ} {shelf : Shelf} (home : Home s registry shelf) (short : IsShort s shelf) (image : Reference) (at : IsAt registry shelf image) (a : RegistryAuth) (can : CanBeShown a) (moment : ℕ) where
-  abbrev I : Memory → Type 0
+module _ {s : Settings} {registry : List ℕ} {shelf : Shelf} (home : IsHosted s registry shelf) (short : FitsLimit s shelf) (image : Reference) (at : IsAt registry shelf image) (a : RegistryAuth) (can : CanBeShown a) (moment : ℕ) where
+  abbrev I : AuthState → Type 0
   I k = Settled registry shelf.repository a k
 
   abbrev ctx : Context
@@ -229,67 +229,67 @@ module _ {s : Settings} {registry : List ℕ} {shelf : Shelf} (home : Home s reg
   abbrev limit : ℕ
   limit = s.max_body_bytes
 
-  whole_gives : (request : Request) (x : Answer) (digest bytes : List ℕ) → Answers shelf request x → IsGood digest bytes x → length bytes ≤ limit → Gives I (answer shelf) (λ got. IsGood digest bytes got.answer) (whole 10 request limit)
-  unfolding whole read_within Comes
+  whole_gives : (request : Request) (x : Answer) (digest bytes : List ℕ) → Answers shelf request x → IsGood digest bytes x → length bytes ≤ limit → AlwaysOk I (answer shelf) (λ got. IsGood digest bytes got.answer) (whole 10 request limit)
+  unfolding whole read_within EvaluatesWith
   whole_gives request x digest bytes asked good le = record {
-    gives = λ k h. Comes-led home.lead (λ l r. I l × Yields (λ got. IsGood digest bytes got.answer) r) (read_within limit) whole_reply x k tt
-        (λ last. subst (λ reply. Comes (answer shelf) (λ l r. I l × Yields (λ got. IsGood digest bytes got.answer) r) (whole_reply last reply) k) (sym (within_reads limit x (subst (λ (b : List ℕ). length b ≤ limit) (sym good.body_is) le))) (h, good))
+    gives = λ k h. EvaluatesWith-led home.lead (λ l r. I l × Yields (λ got. IsGood digest bytes got.answer) r) (read_within limit) whole_reply x k tt
+        (λ last. subst (λ reply. EvaluatesWith (answer shelf) (λ l r. I l × Yields (λ got. IsGood digest bytes got.answer) r) (whole_reply last reply) k) (sym (within_reads limit x (subst (λ (b : List ℕ). length b ≤ limit) (sym good.body_is) le))) (h, good))
         request asked;
   }
 
   -- a whole response
-  pub answer_gives : (request : Request) (x : Answer) → Answers shelf request x → length x.body ≤ limit → Gives I (answer shelf) (λ got. got.answer ≡ x) (whole 10 request limit)
-  unfolding whole read_within Comes
+  pub answer_gives : (request : Request) (x : Answer) → Answers shelf request x → length x.body ≤ limit → AlwaysOk I (answer shelf) (λ got. got.answer ≡ x) (whole 10 request limit)
+  unfolding whole read_within EvaluatesWith
   answer_gives request x asked le = record {
-    gives = λ k h. Comes-led home.lead (λ l r. I l × Yields (λ got. got.answer ≡ x) r) (read_within limit) whole_reply x k tt
-        (λ last. subst (λ reply. Comes (answer shelf) (λ l r. I l × Yields (λ got. got.answer ≡ x) r) (whole_reply last reply) k) (sym (within_reads limit x le)) (h, refl))
+    gives = λ k h. EvaluatesWith-led home.lead (λ l r. I l × Yields (λ got. got.answer ≡ x) r) (read_within limit) whole_reply x k tt
+        (λ last. subst (λ reply. EvaluatesWith (answer shelf) (λ l r. I l × Yields (λ got. got.answer ≡ x) r) (whole_reply last reply) k) (sym (within_reads limit x le)) (h, refl))
         request asked;
   }
 
-  attempt_gives : (request : Request) (x : Answer) (digest bytes : List ℕ) → Answers shelf request x → Names digest bytes → IsGood digest bytes x → length bytes ≤ limit → Gives I (answer shelf) (λ (b : List ℕ). b ≡ bytes) (attempt IntoMemory limit digest request)
-  unfolding attempt blob_reading Comes
+  attempt_gives : (request : Request) (x : Answer) (digest bytes : List ℕ) → Answers shelf request x → Names digest bytes → IsGood digest bytes x → length bytes ≤ limit → AlwaysOk I (answer shelf) (λ (b : List ℕ). b ≡ bytes) (attempt IntoMemory limit digest request)
+  unfolding attempt blob_reading EvaluatesWith
   attempt_gives request x digest bytes asked (alg, named) good le = record {
     gives = λ k h.
         let reading : blob_reading IntoMemory limit digest (head_part x) ≡ Within limit = ap (reading_by IntoMemory limit) (plan_is digest alg bytes x named good) in
-        Comes-led home.lead (λ l r. I l × Yields (λ (b : List ℕ). b ≡ bytes) r) (blob_reading IntoMemory limit digest) (blob_reply digest) x k
+        EvaluatesWith-led home.lead (λ l r. I l × Yields (λ (b : List ℕ). b ≡ bytes) r) (blob_reading IntoMemory limit digest) (blob_reply digest) x k
         (subst IsHeld (sym reading) tt)
-        (λ last. subst (λ (way : Reading). Comes (answer shelf) (λ l r. I l × Yields (λ (b : List ℕ). b ≡ bytes) r) (blob_reply digest last (reply_of way x)) k) (sym reading)
-        (subst (λ reply. Comes (answer shelf) (λ l r. I l × Yields (λ (b : List ℕ). b ≡ bytes) r) (blob_reply digest last reply) k) (sym (within_reads limit x (subst (λ (b : List ℕ). length b ≤ limit) (sym good.body_is) le)))
+        (λ last. subst (λ (way : Reading). EvaluatesWith (answer shelf) (λ l r. I l × Yields (λ (b : List ℕ). b ≡ bytes) r) (blob_reply digest last (reply_of way x)) k) (sym reading)
+        (subst (λ reply. EvaluatesWith (answer shelf) (λ l r. I l × Yields (λ (b : List ℕ). b ≡ bytes) r) (blob_reply digest last reply) k) (sym (within_reads limit x (subst (λ (b : List ℕ). length b ≤ limit) (sym good.body_is) le)))
         (h, yields_ok (λ (b : List ℕ). b ≡ bytes) (read_by last.url x (plan_of digest (head_part x))) bytes (blob_read digest last.url alg bytes x named good) refl)))
         request asked;
   }
 
-  offer_gives : (request : Request) (x : Answer) (digest bytes : List ℕ) (next : Row (List ℕ)) → Answers shelf request x → Names digest bytes → IsGood digest bytes x → length bytes ≤ limit → Gives I (answer shelf) (λ (b : List ℕ). b ≡ bytes) (offer IntoMemory limit digest next request)
-  unfolding offer offer_reading blob_reading Comes
+  offer_gives : (request : Request) (x : Answer) (digest bytes : List ℕ) (next : Row (List ℕ)) → Answers shelf request x → Names digest bytes → IsGood digest bytes x → length bytes ≤ limit → AlwaysOk I (answer shelf) (λ (b : List ℕ). b ≡ bytes) (offer IntoMemory limit digest next request)
+  unfolding offer offer_reading blob_reading EvaluatesWith
   offer_gives request x digest bytes next asked (alg, named) good le = record {
     gives = λ k h.
         let own : Reading = blob_reading IntoMemory limit digest (head_part x) in
         let reading : offer_reading IntoMemory limit digest (head_part x) ≡ Within limit = ap (λ n. if is_error n then Unread else own) good.status ∙ ap (reading_by IntoMemory limit) (plan_is digest alg bytes x named good) in
-        Comes-led home.lead (λ l r. I l × Yields (λ (b : List ℕ). b ≡ bytes) r) (offer_reading IntoMemory limit digest) (offer_reply digest next) x k
+        EvaluatesWith-led home.lead (λ l r. I l × Yields (λ (b : List ℕ). b ≡ bytes) r) (offer_reading IntoMemory limit digest) (offer_reply digest next) x k
         (subst IsHeld (sym reading) tt)
-        (λ last. subst (λ (way : Reading). Comes (answer shelf) (λ l r. I l × Yields (λ (b : List ℕ). b ≡ bytes) r) (offer_reply digest next last (reply_of way x)) k) (sym reading)
-        (subst (λ reply. Comes (answer shelf) (λ l r. I l × Yields (λ (b : List ℕ). b ≡ bytes) r) (offer_reply digest next last reply) k) (sym (within_reads limit x (subst (λ (b : List ℕ). length b ≤ limit) (sym good.body_is) le)))
+        (λ last. subst (λ (way : Reading). EvaluatesWith (answer shelf) (λ l r. I l × Yields (λ (b : List ℕ). b ≡ bytes) r) (offer_reply digest next last (reply_of way x)) k) (sym reading)
+        (subst (λ reply. EvaluatesWith (answer shelf) (λ l r. I l × Yields (λ (b : List ℕ). b ≡ bytes) r) (offer_reply digest next last reply) k) (sym (within_reads limit x (subst (λ (b : List ℕ). length b ≤ limit) (sym good.body_is) le)))
         (h, yields_ok (λ (b : List ℕ). b ≡ bytes) (read_by last.url x (plan_of digest (head_part x))) bytes (blob_read digest last.url alg bytes x named good) refl)))
         request asked;
   }
 
   -- the shelf's response is used, whatever other places there are
-  tried_gives : (places : List Place) (request : Request) (x : Answer) (digest bytes : List ℕ) → Answers shelf request x → Names digest bytes → IsGood digest bytes x → length bytes ≤ limit → Gives I (answer shelf) (λ (b : List ℕ). b ≡ bytes) (tried IntoMemory s digest places request)
+  tried_gives : (places : List Place) (request : Request) (x : Answer) (digest bytes : List ℕ) → Answers shelf request x → Names digest bytes → IsGood digest bytes x → length bytes ≤ limit → AlwaysOk I (answer shelf) (λ (b : List ℕ). b ≡ bytes) (tried IntoMemory s digest places request)
   unfolding tried
   tried_gives [] request x digest bytes asked named good le = attempt_gives request x digest bytes asked named good le
   tried_gives (p ∷ ps) request x digest bytes asked named good le = offer_gives request x digest bytes (Done (asked_at s p) >>= (λ next. tried IntoMemory s digest ps next)) asked named good le
 
-  named_gives : (request : Request) (x : Answer) (digest bytes : List ℕ) → Answers shelf request x → Names digest bytes → IsGood digest [] x → Gives I (answer shelf) (λ n. (got : Got) × (n ≡ ByHeader digest got) × (got.answer.status ≡ 200)) (named_after 10 request limit)
-  unfolding named_after named_reading Comes
+  named_gives : (request : Request) (x : Answer) (digest bytes : List ℕ) → Answers shelf request x → Names digest bytes → IsGood digest [] x → AlwaysOk I (answer shelf) (λ n. (got : Got) × (n ≡ ByHeader digest got) × (got.answer.status ≡ 200)) (named_after 10 request limit)
+  unfolding named_after named_reading EvaluatesWith
   named_gives request x digest bytes asked named good = record {
     gives = λ k h.
         let P : NamedAnswer → Type 0 = λ n. (got : Got) × (n ≡ ByHeader digest got) × (got.answer.status ≡ 200) in
         let reading : named_reading limit (head_part x) ≡ Within limit = ap (reading_named limit) (header_is digest bytes named good) in
         let got : Request → Got = λ last. record { url = last.url; answer = x } in
-        Comes-led home.lead (λ l r. I l × Yields P r) (named_reading limit) named_reply x k
+        EvaluatesWith-led home.lead (λ l r. I l × Yields P r) (named_reading limit) named_reply x k
         (subst IsHeld (sym reading) tt)
-        (λ last. subst (λ (way : Reading). Comes (answer shelf) (λ l r. I l × Yields P r) (named_reply last (reply_of way x)) k) (sym reading)
-        (subst (λ reply. Comes (answer shelf) (λ l r. I l × Yields P r) (named_reply last reply) k) (sym (within_reads limit x (subst (λ (b : List ℕ). length b ≤ limit) (sym good.body_is) (omega arith))))
+        (λ last. subst (λ (way : Reading). EvaluatesWith (answer shelf) (λ l r. I l × Yields P r) (named_reply last (reply_of way x)) k) (sym reading)
+        (subst (λ reply. EvaluatesWith (answer shelf) (λ l r. I l × Yields P r) (named_reply last reply) k) (sym (within_reads limit x (subst (λ (b : List ℕ). length b ≤ limit) (sym good.body_is) (omega arith))))
         (h, yields_ok P (read_named (got last) (header_digest x.headers)) (ByHeader digest (got last)) (ap (read_named (got last)) (header_is digest bytes named good)) (got last, refl, good.status))))
         request asked;
   }
@@ -298,7 +298,7 @@ module _ {s : Settings} {registry : List ℕ} {shelf : Shelf} (home : Home s reg
   name_of_image = manifest_name (digest_of image) (tag_of image)
 
   -- the document of the image's digest or tag is at its URL
-  shelf_document : (method : Method) (digest bytes : List ℕ) (has : HasDocument shelf digest bytes) (request : Request) → Segment name_of_image → digest_named shelf name_of_image ≡ Some digest → is_get_or_head method ≡ true → may_follow method ≡ true → IsFor method (front_of s registry ++ item_path shelf.repository (codes "manifests") name_of_image) request → Answers shelf request (document_answer method digest (Some has.document))
+  shelf_document : (method : Method) (digest bytes : List ℕ) (has : HasDocument shelf digest bytes) (request : Request) → Segment name_of_image → digest_named shelf name_of_image ≡ Some digest → is_get_or_head method ≡ true → may_follow method ≡ true → IsFor method (base_of s registry ++ item_path shelf.repository (codes "manifests") name_of_image) request → Answers shelf request (document_answer method digest (Some has.document))
   shelf_document method digest bytes has request segment points get follows is =
       answers_manifest home request name_of_image (document_answer method digest (Some has.document)) segment is.url_is (ap may_follow is.method_is ∙ follows) refl
       (ap (λ m. manifest_answer shelf m name_of_image) is.method_is
@@ -311,48 +311,48 @@ module _ {s : Settings} {registry : List ℕ} {shelf : Shelf} (home : Home s reg
   manifests_plain segment = item_plain shelf.repository (codes "manifests") name_of_image home.path (109, codes "anifests", refl, refl, refl) segment
 
   document_gives : (digest bytes types : List ℕ) (url : Parts) → HasDocument shelf digest bytes → Segment name_of_image → digest_named shelf name_of_image ≡ Some digest → NoOther (digest_of image) digest → is_header_value types ≡ true
-      → serialize url ≡ front_of s registry ++ item_path shelf.repository (codes "manifests") name_of_image → Gives I (answer shelf) (λ found. found ≡ (bytes, digest)) (document ctx image url types)
+      → serialize url ≡ base_of s registry ++ item_path shelf.repository (codes "manifests") name_of_image → AlwaysOk I (answer shelf) (λ found. found ≡ (bytes, digest)) (document ctx image url types)
   unfolding document
   document_gives digest bytes types url has segment points other listed text =
-      Gives-next _ (prepared_gives home image at a can moment Get url types listed) (λ request is.
-      Gives-next _ (whole_gives request (document_answer Get digest (Some has.document)) digest bytes (shelf_document Get digest bytes has request segment points refl refl (record { method_is = is.method_is; url_is = is.url_is ∙ text })) (document_good Get digest bytes has.document has.named has.content refl) (has_short digest bytes has)) (λ got good.
-      Gives-done (document_in image got) (yields_ok (λ found. found ≡ (bytes, digest)) (document_in image got) (bytes, digest) (document_is image got digest bytes has.named other good) refl)))
+      AlwaysOk-next _ (prepared_gives home image at a can moment Get url types listed) (λ request is.
+      AlwaysOk-next _ (whole_gives request (document_answer Get digest (Some has.document)) digest bytes (shelf_document Get digest bytes has request segment points refl refl (record { method_is = is.method_is; url_is = is.url_is ∙ text })) (document_good Get digest bytes has.document has.named has.content refl) (has_short digest bytes has)) (λ got good.
+      AlwaysOk-done (document_in image got) (yields_ok (λ found. found ≡ (bytes, digest)) (document_in image got) (bytes, digest) (document_is image got digest bytes has.named other good) refl)))
 
   -- the document of the image
-  pub asked_gives : (digest bytes types : List ℕ) → HasDocument shelf digest bytes → Segment name_of_image → digest_named shelf name_of_image ≡ Some digest → NoOther (digest_of image) digest → is_header_value types ≡ true → Gives I (answer shelf) (λ found. found ≡ (bytes, digest)) (manifest_document ctx image types)
+  pub asked_gives : (digest bytes types : List ℕ) → HasDocument shelf digest bytes → Segment name_of_image → digest_named shelf name_of_image ≡ Some digest → NoOther (digest_of image) digest → is_header_value types ≡ true → AlwaysOk I (answer shelf) (λ found. found ≡ (bytes, digest)) (manifest_document ctx image types)
   unfolding manifest_document
   asked_gives digest bytes types has segment points other listed =
-      Gives-next _ (Gives-done (url_read (manifest_text s image)) (url_reads home (manifest_text s image) (item_path shelf.repository (codes "manifests") name_of_image) (manifest_text_is home at) (manifests_plain segment))) (λ url is.
+      AlwaysOk-next _ (AlwaysOk-done (url_read (manifest_text s image)) (url_reads home (manifest_text s image) (item_path shelf.repository (codes "manifests") name_of_image) (manifest_text_is home at) (manifests_plain segment))) (λ url is.
       document_gives digest bytes types url has segment points other listed is.text_is)
 
   -- the document of the image, with credentials that are passed in
-  pub raw_gives : (digest bytes types : List ℕ) → HasDocument shelf digest bytes → Segment name_of_image → digest_named shelf name_of_image ≡ Some digest → NoOther (digest_of image) digest → is_header_value types ≡ true → Gives I (answer shelf) (λ found. found ≡ (bytes, digest)) (pull_manifest_raw ctx image a types)
+  pub raw_gives : (digest bytes types : List ℕ) → HasDocument shelf digest bytes → Segment name_of_image → digest_named shelf name_of_image ≡ Some digest → NoOther (digest_of image) digest → is_header_value types ≡ true → AlwaysOk I (answer shelf) (λ found. found ≡ (bytes, digest)) (pull_manifest_raw ctx image a types)
   unfolding pull_manifest_raw
-  raw_gives digest bytes types has segment points other listed = Gives-next _ (store_gives home image at a can moment) (λ u stored_is. asked_gives digest bytes types has segment points other listed)
+  raw_gives digest bytes types has segment points other listed = AlwaysOk-next _ (store_gives home image at a can moment) (λ u stored_is. asked_gives digest bytes types has segment points other listed)
 
-  fitting : (digest bytes : List ℕ) (url : Parts) (got : Got) → Names digest bytes → NoOther (digest_of image) digest → got.answer.status ≡ 200 → Gives I (answer shelf) (λ (d : List ℕ). d ≡ digest) (digest_by ctx image url (ByHeader digest got))
+  fitting : (digest bytes : List ℕ) (url : Parts) (got : Got) → Names digest bytes → NoOther (digest_of image) digest → got.answer.status ≡ 200 → AlwaysOk I (answer shelf) (λ (d : List ℕ). d ≡ digest) (digest_by ctx image url (ByHeader digest got))
   fitting digest bytes url got named other good =
-      Gives-next _ (Gives-done (accepted 200 got.url got.answer) (yields_ok (λ (x : Answer). Unit {0}) (accepted 200 got.url got.answer) got.answer (accepted_is got.url got.answer good) tt)) (λ x u.
-      Gives-done (fits_reference digest (digest_of image)) (yields_ok (λ (d : List ℕ). d ≡ digest) (fits_reference digest (digest_of image)) digest (fits_is digest bytes (digest_of image) named other) refl))
+      AlwaysOk-next _ (AlwaysOk-done (accepted 200 got.url got.answer) (yields_ok (λ (x : Answer). Unit {0}) (accepted 200 got.url got.answer) got.answer (accepted_is got.url got.answer good) tt)) (λ x u.
+      AlwaysOk-done (fits_reference digest (digest_of image)) (yields_ok (λ (d : List ℕ). d ≡ digest) (fits_reference digest (digest_of image)) digest (fits_is digest bytes (digest_of image) named other) refl))
 
   -- its digest
-  pub digest_gives : (digest bytes : List ℕ) → HasDocument shelf digest bytes → Segment name_of_image → digest_named shelf name_of_image ≡ Some digest → NoOther (digest_of image) digest → Gives I (answer shelf) (λ (d : List ℕ). d ≡ digest) (fetch_manifest_digest ctx image a)
+  pub digest_gives : (digest bytes : List ℕ) → HasDocument shelf digest bytes → Segment name_of_image → digest_named shelf name_of_image ≡ Some digest → NoOther (digest_of image) digest → AlwaysOk I (answer shelf) (λ (d : List ℕ). d ≡ digest) (fetch_manifest_digest ctx image a)
   unfolding fetch_manifest_digest
   digest_gives digest bytes has segment points other =
-      Gives-next _ (store_gives home image at a can moment) (λ u stored_is.
-      Gives-next _ (Gives-done (url_read (manifest_text s image)) (url_reads home (manifest_text s image) (item_path shelf.repository (codes "manifests") name_of_image) (manifest_text_is home at) (manifests_plain segment))) (λ url is.
-      Gives-next _ (prepared_gives home image at a can moment Head url manifest_types refl) (λ request made.
-      Gives-next _ (named_gives request (document_answer Head digest (Some has.document)) digest bytes (shelf_document Head digest bytes has request segment points refl refl (record { method_is = made.method_is; url_is = made.url_is ∙ is.text_is })) has.named (head_good digest bytes has.document has.named)) (λ n found.
-      subst (λ n. Gives I (answer shelf) (λ (d : List ℕ). d ≡ digest) (digest_by ctx image url n)) (sym found.1) (fitting digest bytes url found.0 has.named other found.2)))))
+      AlwaysOk-next _ (store_gives home image at a can moment) (λ u stored_is.
+      AlwaysOk-next _ (AlwaysOk-done (url_read (manifest_text s image)) (url_reads home (manifest_text s image) (item_path shelf.repository (codes "manifests") name_of_image) (manifest_text_is home at) (manifests_plain segment))) (λ url is.
+      AlwaysOk-next _ (prepared_gives home image at a can moment Head url manifest_types refl) (λ request made.
+      AlwaysOk-next _ (named_gives request (document_answer Head digest (Some has.document)) digest bytes (shelf_document Head digest bytes has request segment points refl refl (record { method_is = made.method_is; url_is = made.url_is ∙ is.text_is })) has.named (head_good digest bytes has.document has.named)) (λ n found.
+      subst (λ n. AlwaysOk I (answer shelf) (λ (d : List ℕ). d ≡ digest) (digest_by ctx image url n)) (sym found.1) (fitting digest bytes url found.0 has.named other found.2)))))
 
   -- a blob
-  pub blob_gives : (layer : Layer) (has : HasBlob shelf layer.digest) → Gives I (answer shelf) (λ (b : List ℕ). b ≡ has.blob) (held_blob ctx image layer)
+  pub blob_gives : (layer : Layer) (has : HasBlob shelf layer.digest) → AlwaysOk I (answer shelf) (λ (b : List ℕ). b ≡ has.blob) (held_blob ctx image layer)
   unfolding blob_to
   blob_gives layer has =
       let digest : List ℕ = layer.digest in
       let segment = named_segment digest has.blob has.named in
-      Gives-next _ (Gives-done (url_read (blob_text s image digest)) (url_reads home (blob_text s image digest) (item_path shelf.repository (codes "blobs") digest) (blob_text_is home at digest) (item_plain shelf.repository (codes "blobs") digest home.path (98, codes "lobs", refl, refl, refl) segment))) (λ url is.
-      Gives-next _ (prepared_gives home image at a can moment Get url manifest_types refl) (λ request made.
+      AlwaysOk-next _ (AlwaysOk-done (url_read (blob_text s image digest)) (url_reads home (blob_text s image digest) (item_path shelf.repository (codes "blobs") digest) (blob_text_is home at digest) (item_plain shelf.repository (codes "blobs") digest home.path (98, codes "lobs", refl, refl, refl) segment))) (λ url is.
+      AlwaysOk-next _ (prepared_gives home image at a can moment Get url manifest_types refl) (λ request made.
       tried_gives (places_of layer.urls) request (bytes_answer (with_digest digest) (Some has.blob)) digest has.blob
       (answers_blob home request digest (bytes_answer (with_digest digest) (Some has.blob)) segment (made.url_is ∙ is.text_is) (ap may_follow made.method_is) refl (ap (λ m. blob_answer shelf m digest) made.method_is ∙ ap (bytes_answer (with_digest digest)) has.there))
       has.named (blob_good digest has.blob has.named) (short.blobs digest has.blob has.there)))

@@ -8,7 +8,7 @@ use Rattle.std.proofs.lemmas.List.Elements.{All-head, All-tail}
 use Rattle.oci_names.specs.declared.reference.Reference.{Reference}
 use Rattle.oci_names.specs.Reference.{digest_of, tag_of}
 use Rattle.oci_auth.specs.declared.auth.RegistryAuth.{RegistryAuth}
-use Rattle.oci_auth.specs.declared.memory.Memory.{Memory}
+use Rattle.oci_auth.specs.declared.auth_state.AuthState.{AuthState}
 use Rattle.oci_manifests.specs.declared.document.OciManifest.{OciManifest}
 use Rattle.oci_manifests.specs.declared.document.OciManifest.TheVariants.{Image, ImageIndex}
 use Rattle.oci_manifests.specs.declared.manifest.OciImageManifest.{OciImageManifest}
@@ -29,10 +29,10 @@ use Rattle.engine_rows.specs.declared.image.ImageData.{ImageData}
 use Rattle.engine_rows.specs.Pulls.{pull_manifest, held_blob}
 use Rattle.engine_rows.specs.Manifests.{pull_entry, manifest_by, pull_image_manifest_and_list_digest}
 use Rattle.engine_rows.specs.Image.{is_accepted, all_accepted, layers_accepted, layer_of, config_of, pull_layers, pull}
-use Rattle.shelf_laws.specs.Comes.{Gives}
-use Rattle.shelf_laws.specs.Home.{Home, IsAt, CanBeShown, Settled}
-use Rattle.shelf_laws.specs.Shelves.{IsShort, HasDocument, HasBlob, HasLayer, LeadsTo, ImageOn, layer_on, layers_on}
-use Rattle.shelf_laws.proofs.TableSteps.{Gives-done, Gives-next, Gives-more}
+use Rattle.shelf_laws.specs.EvaluatesWith.{AlwaysOk}
+use Rattle.shelf_laws.specs.IsHosted.{IsHosted, IsAt, CanBeShown, Settled}
+use Rattle.shelf_laws.specs.Shelves.{FitsLimit, HasDocument, HasBlob, HasLayer, LeadsTo, ImageOn, layer_on, layers_on}
+use Rattle.shelf_laws.proofs.TableSteps.{AlwaysOk-done, AlwaysOk-next, AlwaysOk-more}
 use Rattle.shelf_laws.proofs.Documents.{NoOther, digest_itself, named_segment, raw_gives, blob_gives}
 use Rattle.shelf_laws.proofs.Requests.{yields_ok}
 
@@ -74,51 +74,51 @@ points_itself shelf image digest bytes is has =
 
 -- ---- the rows
 
-module _ {s : Settings} {registry : List ℕ} {shelf : Shelf} (home : Home s registry shelf) (short : IsShort s shelf) (a : RegistryAuth) (can : CanBeShown a) (moment : ℕ) where
-  abbrev I : Memory → Type 0
+module _ {s : Settings} {registry : List ℕ} {shelf : Shelf} (home : IsHosted s registry shelf) (short : FitsLimit s shelf) (a : RegistryAuth) (can : CanBeShown a) (moment : ℕ) where
+  abbrev I : AuthState → Type 0
   I k = Settled registry shelf.repository a k
 
   abbrev ctx : Context
   ctx = record { settings = s; moment = moment }
 
-  pub manifest_gives : (image : Reference) (digest bytes : List ℕ) (document : OciManifest) → IsAt registry shelf image → Points shelf image digest → HasDocument shelf digest bytes → document_read bytes ≡ Ok document → Gives I (answer shelf) (λ found. found ≡ (document, digest)) (pull_manifest ctx image a)
+  pub manifest_gives : (image : Reference) (digest bytes : List ℕ) (document : OciManifest) → IsAt registry shelf image → Points shelf image digest → HasDocument shelf digest bytes → document_read bytes ≡ Ok document → AlwaysOk I (answer shelf) (λ found. found ≡ (document, digest)) (pull_manifest ctx image a)
   unfolding pull_manifest
   manifest_gives image digest bytes document at points has reads =
-      Gives-next _ (raw_gives home short image at a can moment digest bytes manifest_types has points.plain points.points points.other refl) (λ found is.
-      Gives-next _ (Gives-done (document_read found.0) (yields_ok (λ (d : OciManifest). d ≡ document) (document_read found.0) document (ap (λ (p : List ℕ × List ℕ). document_read p.0) is ∙ reads) refl)) (λ d same.
-      Gives-done (Ok (d, found.1)) (λ i. (same i, (is i).1))))
+      AlwaysOk-next _ (raw_gives home short image at a can moment digest bytes manifest_types has points.plain points.points points.other refl) (λ found is.
+      AlwaysOk-next _ (AlwaysOk-done (document_read found.0) (yields_ok (λ (d : OciManifest). d ≡ document) (document_read found.0) document (ap (λ (p : List ℕ × List ℕ). document_read p.0) is ∙ reads) refl)) (λ d same.
+      AlwaysOk-done (Ok (d, found.1)) (λ i. (same i, (is i).1))))
 
-  by_document : (image : Reference) (digest : List ℕ) (document : OciManifest) (manifest : OciImageManifest) → IsAt registry shelf image → LeadsTo s shelf document manifest → Gives I (answer shelf) (λ found. found.0 ≡ manifest) (manifest_by ctx image a document digest)
+  by_document : (image : Reference) (digest : List ℕ) (document : OciManifest) (manifest : OciImageManifest) → IsAt registry shelf image → LeadsTo s shelf document manifest → AlwaysOk I (answer shelf) (λ found. found.0 ≡ manifest) (manifest_by ctx image a document digest)
   unfolding pull_entry
-  by_document image digest (Image own) manifest at leads = Gives-done (Ok (own, digest, None)) leads
+  by_document image digest (Image own) manifest at leads = AlwaysOk-done (Ok (own, digest, None)) leads
   by_document image digest (ImageIndex index) manifest at (entry, is, (bytes, has, reads)) =
       let own : Reference = entry_reference image entry in
       let at_entry : IsAt registry shelf own = record { registry_is = at.registry_is; repository_is = at.repository_is; no_mirror = at.no_mirror } in
-      Gives-next _ (Gives-done (entry_found s.platform_resolver index.manifests) (yields_ok (λ (e : List ℕ). e ≡ entry) (entry_found s.platform_resolver index.manifests) entry is refl)) (λ e same.
-      Gives-next _ (subst (λ (e : List ℕ). Gives I (answer shelf) (λ (m : OciImageManifest). m ≡ manifest) (pull_entry ctx image a e)) (sym same)
-      (Gives-next _ (manifest_gives own entry bytes (Image manifest) at_entry (points_itself shelf own entry bytes refl has) has reads) (λ found known.
-      Gives-done (entry_manifest entry found.0) (yields_ok (λ (m : OciImageManifest). m ≡ manifest) (entry_manifest entry found.0) manifest (ap (λ (p : OciManifest × List ℕ). entry_manifest entry p.0) known) refl)))) (λ m known.
-      Gives-done (Ok (m, e, Some digest)) known))
+      AlwaysOk-next _ (AlwaysOk-done (entry_found s.platform_resolver index.manifests) (yields_ok (λ (e : List ℕ). e ≡ entry) (entry_found s.platform_resolver index.manifests) entry is refl)) (λ e same.
+      AlwaysOk-next _ (subst (λ (e : List ℕ). AlwaysOk I (answer shelf) (λ (m : OciImageManifest). m ≡ manifest) (pull_entry ctx image a e)) (sym same)
+      (AlwaysOk-next _ (manifest_gives own entry bytes (Image manifest) at_entry (points_itself shelf own entry bytes refl has) has reads) (λ found known.
+      AlwaysOk-done (entry_manifest entry found.0) (yields_ok (λ (m : OciImageManifest). m ≡ manifest) (entry_manifest entry found.0) manifest (ap (λ (p : OciManifest × List ℕ). entry_manifest entry p.0) known) refl)))) (λ m known.
+      AlwaysOk-done (Ok (m, e, Some digest)) known))
 
   blob_on : (digest : List ℕ) (has : HasBlob shelf digest) → has.blob ≡ unwrap_or (map.get shelf.blobs digest) []
   blob_on digest has = ap (λ (o : Option (List ℕ)). unwrap_or o []) (sym has.there)
 
-  layers_give : (image : Reference) (accepted : List (List ℕ)) (xs : List OciDescriptor) (before : List ImageLayer) → IsAt registry shelf image → All (HasLayer shelf accepted) xs → Gives I (answer shelf) (λ layers. layers ≡ before ++ layers_on shelf xs) (pull_layers ctx image xs before)
+  layers_give : (image : Reference) (accepted : List (List ℕ)) (xs : List OciDescriptor) (before : List ImageLayer) → IsAt registry shelf image → All (HasLayer shelf accepted) xs → AlwaysOk I (answer shelf) (λ layers. layers ≡ before ++ layers_on shelf xs) (pull_layers ctx image xs before)
   unfolding pull_layers
-  layers_give image accepted [] before at all = Gives-done (Ok before) (sym (append-nil before))
+  layers_give image accepted [] before at all = AlwaysOk-done (Ok before) (sym (append-nil before))
   layers_give image accepted (x ∷ xs) before at all =
       let has = (All-head (HasLayer shelf accepted) x xs all).0 in
-      Gives-next _ (blob_gives home short image at a can moment (described x) has) (λ content is.
+      AlwaysOk-next _ (blob_gives home short image at a can moment (described x) has) (λ content is.
       let same : layer_of x content ≡ layer_on shelf x = ap (layer_of x) (is ∙ blob_on x.digest has) in
-      Gives-more (λ layers. layers ≡ before ++ layers_on shelf (x ∷ xs)) (layers_give image accepted xs (before ++ layer_of x content ∷ []) at (All-tail (HasLayer shelf accepted) x xs all)) (λ layers known.
+      AlwaysOk-more (λ layers. layers ≡ before ++ layers_on shelf (x ∷ xs)) (layers_give image accepted xs (before ++ layer_of x content ∷ []) at (All-tail (HasLayer shelf accepted) x xs all)) (λ layers known.
       known ∙ append_assoc before (layer_of x content ∷ []) (layers_on shelf xs) ∙ ap (λ (l : ImageLayer). before ++ l ∷ layers_on shelf xs) same))
 
-  pub pull_gives : (image : Reference) (digest : List ℕ) (accepted : List (List ℕ)) (on : ImageOn s shelf digest accepted) → IsAt registry shelf image → Points shelf image digest → Gives I (answer shelf) (λ (data_of : ImageData). data_of.layers ≡ layers_on shelf on.manifest.layers) (pull ctx image a accepted)
+  pub pull_gives : (image : Reference) (digest : List ℕ) (accepted : List (List ℕ)) (on : ImageOn s shelf digest accepted) → IsAt registry shelf image → Points shelf image digest → AlwaysOk I (answer shelf) (λ (data_of : ImageData). data_of.layers ≡ layers_on shelf on.manifest.layers) (pull ctx image a accepted)
   unfolding pull pull_image_manifest_and_list_digest
   pull_gives image digest accepted on at points =
       let has = on.blobs in
-      Gives-next _ (Gives-next _ (manifest_gives image digest on.first on.document at points on.there on.reads) (λ found is. subst (λ (p : OciManifest × List ℕ). Gives I (answer shelf) (λ found. found.0 ≡ on.manifest) (manifest_by ctx image a p.0 p.1)) (sym is) (by_document image digest on.document on.manifest at on.leads))) (λ found is.
-      Gives-next _ (subst (λ (m : OciImageManifest). Gives I (answer shelf) (λ (b : List ℕ). b ≡ has.config.blob) (held_blob ctx image (described m.config))) (sym is) (blob_gives home short image at a can moment (described on.manifest.config) has.config)) (λ config known.
-      Gives-next _ (Gives-done (layers_accepted accepted found.0.layers) (yields_ok (λ u. Unit {0}) (layers_accepted accepted found.0.layers) tt (ap (λ (m : OciImageManifest). layers_accepted accepted m.layers) is ∙ types_accepted shelf accepted on.manifest.layers has.some has.layers) tt)) (λ u checked.
-      Gives-next _ (subst (λ (m : OciImageManifest). Gives I (answer shelf) (λ layers. layers ≡ layers_on shelf on.manifest.layers) (pull_layers ctx image m.layers [])) (sym is) (layers_give image accepted on.manifest.layers [] at has.layers)) (λ layers same.
-      Gives-done (Ok (record { layers = layers; digest = Some found.1; config = config_of found.0 config; manifest = Some found.0 })) same))))
+      AlwaysOk-next _ (AlwaysOk-next _ (manifest_gives image digest on.first on.document at points on.there on.reads) (λ found is. subst (λ (p : OciManifest × List ℕ). AlwaysOk I (answer shelf) (λ found. found.0 ≡ on.manifest) (manifest_by ctx image a p.0 p.1)) (sym is) (by_document image digest on.document on.manifest at on.leads))) (λ found is.
+      AlwaysOk-next _ (subst (λ (m : OciImageManifest). AlwaysOk I (answer shelf) (λ (b : List ℕ). b ≡ has.config.blob) (held_blob ctx image (described m.config))) (sym is) (blob_gives home short image at a can moment (described on.manifest.config) has.config)) (λ config known.
+      AlwaysOk-next _ (AlwaysOk-done (layers_accepted accepted found.0.layers) (yields_ok (λ u. Unit {0}) (layers_accepted accepted found.0.layers) tt (ap (λ (m : OciImageManifest). layers_accepted accepted m.layers) is ∙ types_accepted shelf accepted on.manifest.layers has.some has.layers) tt)) (λ u checked.
+      AlwaysOk-next _ (subst (λ (m : OciImageManifest). AlwaysOk I (answer shelf) (λ layers. layers ≡ layers_on shelf on.manifest.layers) (pull_layers ctx image m.layers [])) (sym is) (layers_give image accepted on.manifest.layers [] at has.layers)) (λ layers same.
+      AlwaysOk-done (Ok (record { layers = layers; digest = Some found.1; config = config_of found.0 config; manifest = Some found.0 })) same))))

@@ -29,7 +29,7 @@ use Rattle.engine_terms.specs.declared.settings.Settings.{Settings}
 use Rattle.engine_requests.specs.ReferrerLists.{referrers_text}
 use Rattle.engine_requests.specs.Addresses.{registry_text, base_text, manifest_name, manifest_text, blob_text, mirrored}
 use Rattle.engine_terms.specs.Settings.{is_listed, scheme_for}
-use Rattle.shelf_laws.specs.Home.{front_of, IsWrittenPlainly, Home, IsAt}
+use Rattle.shelf_laws.specs.IsHosted.{base_of, IsWrittenPlainly, IsHosted, IsAt}
 use Rattle.shelf_laws.proofs.DigestTexts.{and_both}
 use Rattle.shelf_laws.proofs.ShelfRedirects.{byte_below, Answers, without_redirects, at_path_is}
 use Rattle.shelf_laws.proofs.ReadUrls.{Visible, front_all, request_read}
@@ -72,7 +72,7 @@ same_targets a b scheme host port =
 -- plain paths parse after a registry that is written plainly
 plain_paths : {s : Settings} {registry : List ℕ} (written : IsWrittenPlainly s registry) → PlainPathsRead written.url
 plain_paths {s} {registry} written =
-    let front : List ℕ = front_of s registry in
+    let front : List ℕ = base_of s registry in
     let read = request_read front written.url written.reads in
     let visible = front_all Visible front (codes "/") (subst (All Visible) written.text read.visible) in
     plain_paths_read written.url (read.valid (All-weaker Visible IsByte byte_below front visible))
@@ -87,17 +87,17 @@ unasked value = by_test (is_header_value value && nat_lt (held map.empty) 1000) 
   by_test true = ap (λ (o : Option (List (List ℕ))). slice_get (unwrap_or o []) 0) (get-insert nat_list_cmp_total map.empty (codes "location") (values_of (codes "location") map.empty ++ value ∷ []) (codes "www-authenticate")) ∙ nothing
   by_test false = nothing
 
-module _ {s : Settings} {registry : List ℕ} {shelf : Shelf} (home : Home s registry shelf) where
-  pub reads_at : (path : List ℕ) → PlainPath path → ReadsAs (front_of s registry ++ path) home.written.url
+module _ {s : Settings} {registry : List ℕ} {shelf : Shelf} (home : IsHosted s registry shelf) where
+  pub reads_at : (path : List ℕ) → PlainPath path → ReadsAs (base_of s registry ++ path) home.written.url
   reads_at path plain = plain_paths home.written (scheme_for s.protocol registry) registry path (scheme_of s.protocol registry) home.domain home.written.reads home.written.text plain
 
-  path_at : (path : List ℕ) → PlainPath (47 ∷ path) → path_of (front_of s registry ++ 47 ∷ path) ≡ Some path
+  path_at : (path : List ℕ) → PlainPath (47 ∷ path) → path_of (base_of s registry ++ 47 ∷ path) ≡ Some path
   path_at path plain =
       ap path_of (append_assoc (scheme_for s.protocol registry ++ codes "://") registry (47 ∷ path) ∙ append_assoc (scheme_for s.protocol registry) (codes "://") (registry ++ 47 ∷ path))
       ∙ path_of-at (scheme_for s.protocol registry) registry path (scheme_of s.protocol registry) (domain_slashless registry home.domain) (plain_asks_nothing (47 ∷ path) plain)
 
   -- `/v2/`
-  pub base_unasked : (request : Request) → request.url ≡ front_of s registry ++ codes "/v2/" → first_of (codes "www-authenticate") (answer shelf request).headers ≡ None
+  pub base_unasked : (request : Request) → request.url ≡ base_of s registry ++ codes "/v2/" → first_of (codes "www-authenticate") (answer shelf request).headers ≡ None
   unfolding answer
   base_unasked request is = by_redirect (cond (is_get_or_head request.method) (map.get shelf.redirects request.url) None) where
     here : at_path shelf request.method (path_of request.url) ≡ cond (is_get request.method) (found map.empty []) not_found
@@ -112,23 +112,23 @@ module _ {s : Settings} {registry : List ℕ} {shelf : Shelf} (home : Home s reg
     by_redirect None = ap (λ (x : Answer). first_of (codes "www-authenticate") x.headers) here ∙ by_method (is_get request.method)
 
   -- a GET or HEAD of a plain path
-  asked_at : (request : Request) (path : List ℕ) (x : Answer) → PlainPath (47 ∷ path) → request.url ≡ front_of s registry ++ 47 ∷ path → may_follow request.method ≡ true → is_redirect_status x.status ≡ false
+  asked_at : (request : Request) (path : List ℕ) (x : Answer) → PlainPath (47 ∷ path) → request.url ≡ base_of s registry ++ 47 ∷ path → may_follow request.method ≡ true → is_redirect_status x.status ≡ false
       → (map.get (without_redirects shelf).redirects request.url ≡ None → path_of request.url ≡ Some path → answer (without_redirects shelf) request ≡ x) → Answers shelf request x
   asked_at request path x plain is follows rests at =
       let read = reads_at (47 ∷ path) plain in
       record { follows = follows; url = read.read; reads = ap request_url is ∙ read.reads; at = at_path_is shelf request x (λ none. at none (ap path_of is ∙ path_at path plain)); rests = rests }
 
-  pub answers_manifest : (request : Request) (name : List ℕ) (x : Answer) → Segment name → request.url ≡ front_of s registry ++ item_path shelf.repository (codes "manifests") name → may_follow request.method ≡ true → is_redirect_status x.status ≡ false → manifest_answer shelf request.method name ≡ x → Answers shelf request x
+  pub answers_manifest : (request : Request) (name : List ℕ) (x : Answer) → Segment name → request.url ≡ base_of s registry ++ item_path shelf.repository (codes "manifests") name → may_follow request.method ≡ true → is_redirect_status x.status ≡ false → manifest_answer shelf request.method name ≡ x → Answers shelf request x
   answers_manifest request name x named is follows rests at =
       asked_at request (codes "v2/" ++ (shelf.repository ++ (codes "/manifests/" ++ name))) x (item_plain shelf.repository (codes "manifests") name home.path (109, codes "anifests", refl, refl, refl) named) is follows rests
       (λ none path. answer-manifest (without_redirects shelf) request name none path ∙ at)
 
-  pub answers_blob : (request : Request) (name : List ℕ) (x : Answer) → Segment name → request.url ≡ front_of s registry ++ item_path shelf.repository (codes "blobs") name → may_follow request.method ≡ true → is_redirect_status x.status ≡ false → blob_answer shelf request.method name ≡ x → Answers shelf request x
+  pub answers_blob : (request : Request) (name : List ℕ) (x : Answer) → Segment name → request.url ≡ base_of s registry ++ item_path shelf.repository (codes "blobs") name → may_follow request.method ≡ true → is_redirect_status x.status ≡ false → blob_answer shelf request.method name ≡ x → Answers shelf request x
   answers_blob request name x named is follows rests at =
       asked_at request (codes "v2/" ++ (shelf.repository ++ (codes "/blobs/" ++ name))) x (item_plain shelf.repository (codes "blobs") name home.path (98, codes "lobs", refl, refl, refl) named) is follows rests
       (λ none path. answer-blob (without_redirects shelf) request name none path ∙ at)
 
-  pub answers_referrers : (request : Request) (name : List ℕ) (x : Answer) → Segment name → request.url ≡ front_of s registry ++ item_path shelf.repository (codes "referrers") name → may_follow request.method ≡ true → is_redirect_status x.status ≡ false → referrers_answer shelf request.method name ≡ x → Answers shelf request x
+  pub answers_referrers : (request : Request) (name : List ℕ) (x : Answer) → Segment name → request.url ≡ base_of s registry ++ item_path shelf.repository (codes "referrers") name → may_follow request.method ≡ true → is_redirect_status x.status ≡ false → referrers_answer shelf request.method name ≡ x → Answers shelf request x
   answers_referrers request name x named is follows rests at =
       asked_at request (codes "v2/" ++ (shelf.repository ++ (codes "/referrers/" ++ name))) x (item_plain shelf.repository (codes "referrers") name home.path (114, codes "eferrers", refl, refl, refl) named) is follows rests
       (λ none path. answer-referrers (without_redirects shelf) request name none path ∙ at)
@@ -140,22 +140,22 @@ module _ {s : Settings} {registry : List ℕ} {shelf : Shelf} (home : Home s reg
   -- ---- the texts of URLs
 
   module _ {image : Reference} (at : IsAt registry shelf image) where
-    pub registry_text_is : registry_text s image ≡ front_of s registry
-    registry_text_is = ap (front_of s) at.registry_is
+    pub registry_text_is : registry_text s image ≡ base_of s registry
+    registry_text_is = ap (base_of s) at.registry_is
 
-    pub base_text_is : base_text s image ≡ front_of s registry ++ codes "/v2/"
+    pub base_text_is : base_text s image ≡ base_of s registry ++ codes "/v2/"
     base_text_is = ap (λ (t : List ℕ). t ++ codes "/v2/") registry_text_is
 
-    item_text : (kind name : List ℕ) → base_text s image ++ repository_of image ++ (47 ∷ (kind ++ 47 ∷ [])) ++ name ++ mirrored (namespace_of image) ≡ front_of s registry ++ item_path shelf.repository kind name
+    item_text : (kind name : List ℕ) → base_text s image ++ repository_of image ++ (47 ∷ (kind ++ 47 ∷ [])) ++ name ++ mirrored (namespace_of image) ≡ base_of s registry ++ item_path shelf.repository kind name
     item_text kind name =
         let none = ap mirrored at.no_mirror in
         rw (base_text_is, at.repository_is, none) (simp (append_assoc, append-nil))
 
-    pub manifest_text_is : manifest_text s image ≡ front_of s registry ++ item_path shelf.repository (codes "manifests") (manifest_name (digest_of image) (tag_of image))
+    pub manifest_text_is : manifest_text s image ≡ base_of s registry ++ item_path shelf.repository (codes "manifests") (manifest_name (digest_of image) (tag_of image))
     manifest_text_is = item_text (codes "manifests") (manifest_name (digest_of image) (tag_of image))
 
-    pub blob_text_is : (digest : List ℕ) → blob_text s image digest ≡ front_of s registry ++ item_path shelf.repository (codes "blobs") digest
+    pub blob_text_is : (digest : List ℕ) → blob_text s image digest ≡ base_of s registry ++ item_path shelf.repository (codes "blobs") digest
     blob_text_is digest = item_text (codes "blobs") digest
 
-    pub referrers_text_is : (digest : List ℕ) → referrers_text s image digest ≡ front_of s registry ++ item_path shelf.repository (codes "referrers") digest
+    pub referrers_text_is : (digest : List ℕ) → referrers_text s image digest ≡ base_of s registry ++ item_path shelf.repository (codes "referrers") digest
     referrers_text_is digest = rw (base_text_is, at.repository_is) (simp append_assoc)

@@ -7,7 +7,7 @@ use Rattle.url.specs.Parts.{Parts}
 use Rattle.oci_names.specs.declared.reference.Reference.{Reference}
 use Rattle.oci_names.specs.Reference.{digest_of}
 use Rattle.oci_auth.specs.declared.auth.RegistryAuth.{RegistryAuth}
-use Rattle.oci_auth.specs.declared.memory.Memory.{Memory}
+use Rattle.oci_auth.specs.declared.auth_state.AuthState.{AuthState}
 use Rattle.oci_digests.specs.Names.{Names}
 use Rattle.oci_manifests.specs.declared.document.OciManifest.{OciManifest}
 use Rattle.oci_manifests.specs.declared.document.OciManifest.TheVariants.{ImageIndex}
@@ -31,10 +31,10 @@ use Rattle.engine_requests.specs.Requests.{manifest_types}
 use Rattle.engine_terms.specs.declared.settings.Settings.{Settings}
 use Rattle.engine_rows.specs.Pulls.{manifest_asked}
 use Rattle.engine_rows.specs.Referrers.{referrers_asked, referrers_tagged, referrers_by, pull_referrers}
-use Rattle.shelf_laws.specs.Comes.{Yields, Gives}
-use Rattle.shelf_laws.specs.Home.{front_of, Home, IsAt, CanBeShown, Settled}
-use Rattle.shelf_laws.specs.Shelves.{IsShort, TagLists, ListsBy, Lists}
-use Rattle.shelf_laws.proofs.TableSteps.{Gives-done, Gives-next, Gives-caught}
+use Rattle.shelf_laws.specs.EvaluatesWith.{Yields, AlwaysOk}
+use Rattle.shelf_laws.specs.IsHosted.{base_of, IsHosted, IsAt, CanBeShown, Settled}
+use Rattle.shelf_laws.specs.Shelves.{FitsLimit, TagLists, ListsBy, Lists}
+use Rattle.shelf_laws.proofs.TableSteps.{AlwaysOk-done, AlwaysOk-next, AlwaysOk-caught}
 use Rattle.shelf_laws.proofs.DigestTags.{dashed_text, dashed_segment, dashed_colonless}
 use Rattle.shelf_laws.proofs.Documents.{named_segment, asked_gives, answer_gives}
 use Rattle.shelf_laws.proofs.PlainNames.{item_plain}
@@ -50,8 +50,8 @@ tag_segment digest bytes (a, is) = subst Segment (sym (ap referrers_tag is ∙ d
 tag_points : (shelf : Shelf) (digest bytes : List ℕ) → Names digest bytes → digest_named shelf (referrers_tag digest) ≡ map.get shelf.tags (referrers_tag digest)
 tag_points shelf digest bytes (a, is) = ap (λ b. if b then Some (referrers_tag digest) else map.get shelf.tags (referrers_tag digest)) (ap (list_any (λ b. b == 58)) (ap referrers_tag is ∙ dashed_text a bytes) ∙ dashed_colonless a bytes)
 
-module _ {s : Settings} {registry : List ℕ} {shelf : Shelf} (home : Home s registry shelf) (short : IsShort s shelf) (image : Reference) (at : IsAt registry shelf image) (a : RegistryAuth) (can : CanBeShown a) (moment : ℕ) (digest bytes : List ℕ) (named : Names digest bytes) where
-  abbrev I : Memory → Type 0
+module _ {s : Settings} {registry : List ℕ} {shelf : Shelf} (home : IsHosted s registry shelf) (short : FitsLimit s shelf) (image : Reference) (at : IsAt registry shelf image) (a : RegistryAuth) (can : CanBeShown a) (moment : ℕ) (digest bytes : List ℕ) (named : Names digest bytes) where
+  abbrev I : AuthState → Type 0
   I k = Settled registry shelf.repository a k
 
   abbrev ctx : Context
@@ -68,13 +68,13 @@ module _ {s : Settings} {registry : List ℕ} {shelf : Shelf} (home : Home s reg
   short_body None is = omega arith
   short_body (Some body) is = short.referrers digest body is
 
-  list_gives : Gives I (answer shelf) (λ got. got.answer ≡ bytes_answer map.empty listed) (referrers_asked ctx image digest None)
+  list_gives : AlwaysOk I (answer shelf) (λ got. got.answer ≡ bytes_answer map.empty listed) (referrers_asked ctx image digest None)
   unfolding referrers_asked
   list_gives =
       let segment = named_segment digest bytes named in
       let url_ok = url_reads home (referrers_text s image digest) (item_path shelf.repository (codes "referrers") digest) (referrers_text_is home at digest) (item_plain shelf.repository (codes "referrers") digest home.path (114, codes "eferrers", refl, refl, refl) segment) in
-      Gives-next _ (Gives-done (referrers_url s image digest None) (unrestricted (IsUrl (front_of s registry ++ item_path shelf.repository (codes "referrers") digest) home.written.url) (url_read (referrers_text s image digest)) url_ok)) (λ url is.
-      Gives-next _ (prepared_gives home image at a can moment Get url manifest_types refl) (λ request made.
+      AlwaysOk-next _ (AlwaysOk-done (referrers_url s image digest None) (unrestricted (IsUrl (base_of s registry ++ item_path shelf.repository (codes "referrers") digest) home.written.url) (url_read (referrers_text s image digest)) url_ok)) (λ url is.
+      AlwaysOk-next _ (prepared_gives home image at a can moment Get url manifest_types refl) (λ request made.
       answer_gives home short image at a can moment request (bytes_answer map.empty listed)
       (answers_referrers home request digest (bytes_answer map.empty listed) segment (made.url_is ∙ is.text_is) (ap may_follow made.method_is) (rests listed) (ap (λ m. referrers_answer shelf m digest) made.method_is))
       (short_body listed refl))) where
@@ -82,27 +82,27 @@ module _ {s : Settings} {registry : List ℕ} {shelf : Shelf} (home : Home s reg
         unrestricted P (Ok url) h = h
         unrestricted P (Err e) h = h
 
-  tag_gives : (index : OciImageIndex) → TagLists shelf digest index → Gives I (answer shelf) (λ x. x ≡ index) (referrers_tagged ctx image digest None)
+  tag_gives : (index : OciImageIndex) → TagLists shelf digest index → AlwaysOk I (answer shelf) (λ x. x ≡ index) (referrers_tagged ctx image digest None)
   unfolding referrers_tagged manifest_asked
   tag_gives index lists =
       let own = fallback_reference image digest in
       let at_own : IsAt registry shelf own = record { registry_is = resolved_again image at.no_mirror ∙ at.registry_is; repository_is = at.repository_is; no_mirror = refl } in
-      Gives-caught {P = λ (found : OciManifest × List ℕ). found.0 ≡ ImageIndex index} (λ r. Done (tagged_index digest None r))
-      (Gives-next _ (asked_gives home short own at_own a can moment lists.list lists.bytes manifest_types lists.there (tag_segment digest bytes named) (tag_points shelf digest bytes named ∙ lists.tagged) tt refl) (λ found is.
-      Gives-next _ (Gives-done (document_read found.0) (yields_ok (λ (d : OciManifest). d ≡ ImageIndex index) (document_read found.0) (ImageIndex index) (ap (λ (p : List ℕ × List ℕ). document_read p.0) is ∙ lists.reads) refl)) (λ d same.
-      Gives-done (Ok (d, found.1)) same)))
-      (λ found same. Gives-done (tagged_index digest None (Ok found)) (yields_ok (λ x. x ≡ index) (tagged_index digest None (Ok found)) index (ap (λ (d : OciManifest). tagged_index digest None (Ok (d, found.1))) same) refl))
+      AlwaysOk-caught {P = λ (found : OciManifest × List ℕ). found.0 ≡ ImageIndex index} (λ r. Done (tagged_index digest None r))
+      (AlwaysOk-next _ (asked_gives home short own at_own a can moment lists.list lists.bytes manifest_types lists.there (tag_segment digest bytes named) (tag_points shelf digest bytes named ∙ lists.tagged) tt refl) (λ found is.
+      AlwaysOk-next _ (AlwaysOk-done (document_read found.0) (yields_ok (λ (d : OciManifest). d ≡ ImageIndex index) (document_read found.0) (ImageIndex index) (ap (λ (p : List ℕ × List ℕ). document_read p.0) is ∙ lists.reads) refl)) (λ d same.
+      AlwaysOk-done (Ok (d, found.1)) same)))
+      (λ found same. AlwaysOk-done (tagged_index digest None (Ok found)) (yields_ok (λ x. x ≡ index) (tagged_index digest None (Ok found)) index (ap (λ (d : OciManifest). tagged_index digest None (Ok (d, found.1))) same) refl))
 
-  by_list : (o : Option (List ℕ)) (index : OciImageIndex) (got : Got) → ListsBy shelf digest index o → got.answer ≡ bytes_answer map.empty o → Gives I (answer shelf) (λ x. x ≡ index) (referrers_by ctx image digest None got)
+  by_list : (o : Option (List ℕ)) (index : OciImageIndex) (got : Got) → ListsBy shelf digest index o → got.answer ≡ bytes_answer map.empty o → AlwaysOk I (answer shelf) (λ x. x ≡ index) (referrers_by ctx image digest None got)
   by_list (Some body) index got reads is =
-      subst (λ (x : Answer). Gives I (answer shelf) (λ x. x ≡ index) (referrers_by ctx image digest None (record { url = got.url; answer = x }))) (sym is)
-      (Gives-done (referrers_in (record { url = got.url; answer = found map.empty body })) (yields_ok (λ x. x ≡ index) (referrers_in (record { url = got.url; answer = found map.empty body })) index reads refl))
+      subst (λ (x : Answer). AlwaysOk I (answer shelf) (λ x. x ≡ index) (referrers_by ctx image digest None (record { url = got.url; answer = x }))) (sym is)
+      (AlwaysOk-done (referrers_in (record { url = got.url; answer = found map.empty body })) (yields_ok (λ x. x ≡ index) (referrers_in (record { url = got.url; answer = found map.empty body })) index reads refl))
   by_list None index got lists is =
-      subst (λ (x : Answer). Gives I (answer shelf) (λ x. x ≡ index) (referrers_by ctx image digest None (record { url = got.url; answer = x }))) (sym is) (tag_gives index lists)
+      subst (λ (x : Answer). AlwaysOk I (answer shelf) (λ x. x ≡ index) (referrers_by ctx image digest None (record { url = got.url; answer = x }))) (sym is) (tag_gives index lists)
 
-  pub referrers_give : (index : OciImageIndex) → digest_of image ≡ Some digest → Lists shelf digest index → Gives I (answer shelf) (λ x. x ≡ index) (pull_referrers ctx image None)
+  pub referrers_give : (index : OciImageIndex) → digest_of image ≡ Some digest → Lists shelf digest index → AlwaysOk I (answer shelf) (λ x. x ≡ index) (pull_referrers ctx image None)
   unfolding pull_referrers
   referrers_give index own lists =
-      Gives-next _ (Gives-done (digest_given (digest_of image)) (yields_ok (λ (d : List ℕ). d ≡ digest) (digest_given (digest_of image)) digest (ap digest_given own) refl)) (λ d same.
-      subst (λ (t : List ℕ). Gives I (answer shelf) (λ x. x ≡ index) (referrers_asked ctx image t None >>= λ got. referrers_by ctx image t None got)) (sym same)
-      (Gives-next _ list_gives (λ got is. by_list listed index got lists is)))
+      AlwaysOk-next _ (AlwaysOk-done (digest_given (digest_of image)) (yields_ok (λ (d : List ℕ). d ≡ digest) (digest_given (digest_of image)) digest (ap digest_given own) refl)) (λ d same.
+      subst (λ (t : List ℕ). AlwaysOk I (answer shelf) (λ x. x ≡ index) (referrers_asked ctx image t None >>= λ got. referrers_by ctx image t None got)) (sym same)
+      (AlwaysOk-next _ list_gives (λ got is. by_list listed index got lists is)))

@@ -15,7 +15,7 @@ use Rattle.oci_transport.specs.declared.message.Method.{Method}
 use Rattle.oci_auth.specs.Auth.{authorization_of}
 use Rattle.oci_auth.specs.declared.token_type.RegistryTokenType.{RegistryTokenType}
 use Rattle.oci_protocol.specs.Proto.{Within, Answered, TooLong}
-use Rattle.oci_protocol.specs.Drive.{reply_of}
+use Rattle.oci_protocol.specs.Evaluation.{reply_of}
 use Rattle.oci_link.specs.PlainPaths.{PlainPath}
 use Rattle.oci_link.specs.declared.shelf.Shelf.{Shelf}
 use Rattle.engine_terms.specs.declared.error.OciDistributionError.TheVariants as refusal
@@ -23,8 +23,8 @@ use Rattle.engine_terms.specs.declared.error.GenericCause.TheVariants.{HeaderTex
 use Rattle.engine_terms.specs.declared.settings.Settings.{Settings}
 use Rattle.engine_requests.specs.Addresses.{url_or, url_read}
 use Rattle.engine_requests.specs.Requests.{with_header, with_token, request_of}
-use Rattle.shelf_laws.specs.Comes.{Yields}
-use Rattle.shelf_laws.specs.Home.{front_of, Home}
+use Rattle.shelf_laws.specs.EvaluatesWith.{Yields}
+use Rattle.shelf_laws.specs.IsHosted.{base_of, IsHosted}
 use Rattle.shelf_laws.proofs.ShelfRedirects.{no_entries, none_held}
 use Rattle.shelf_laws.proofs.Places.{reads_at}
 
@@ -98,10 +98,10 @@ pub record IsUrl (text : List ℕ) (registry url : Parts) : Type 0 where
   pub host : url.host ≡ registry.host
   pub port : url.port ≡ registry.port
 
-pub url_reads : {s : Settings} {registry : List ℕ} {shelf : Shelf} (home : Home s registry shelf) (text path : List ℕ) → text ≡ front_of s registry ++ path → PlainPath path → Yields (IsUrl (front_of s registry ++ path) home.written.url) (url_read text)
+pub url_reads : {s : Settings} {registry : List ℕ} {shelf : Shelf} (home : IsHosted s registry shelf) (text path : List ℕ) → text ≡ base_of s registry ++ path → PlainPath path → Yields (IsUrl (base_of s registry ++ path) home.written.url) (url_read text)
 url_reads {s} {registry} home text path is plain =
     let read = reads_at home path plain in
-    yields_ok (IsUrl (front_of s registry ++ path) home.written.url) (url_read text) read.read (ap url_read is ∙ ap (url_or (front_of s registry ++ path)) read.reads) (record { text_is = read.same_text; reads = read.reads; scheme = read.scheme; host = read.host; port = read.port })
+    yields_ok (IsUrl (base_of s registry ++ path) home.written.url) (url_read text) read.read (ap url_read is ∙ ap (url_or (base_of s registry ++ path)) read.reads) (record { text_is = read.same_text; reads = read.reads; scheme = read.scheme; host = read.host; port = read.port })
 
 -- a body that is not too long
 pub within_reads : (limit : ℕ) (answer : Answer) → length answer.body ≤ limit → reply_of (Within limit) answer ≡ Answered answer

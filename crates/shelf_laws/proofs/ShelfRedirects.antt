@@ -29,15 +29,15 @@ use Rattle.oci_transport.specs.declared.message.AnswerHead.{AnswerHead}
 use Rattle.oci_transport.specs.declared.message.Method.{Method}
 use Rattle.oci_transport.specs.declared.message.Method.TheVariants as method
 use Rattle.oci_protocol.specs.Proto.{Reading, Reply, Headed, Proto}
-use Rattle.oci_protocol.specs.Drive.{reply_of}
+use Rattle.oci_protocol.specs.Evaluation.{reply_of}
 use Rattle.oci_protocol.specs.Follow.{unread_if, turned, go_if, turn, follow}
 use Rattle.oci_protocol.specs.Runs.{head_part}
 use Rattle.oci_link.specs.Leads.{Texts, is_own_text, same_path, ends_within, entry_leads, redirects_lead}
 use Rattle.oci_link.specs.Paths.{path_of}
 use Rattle.oci_link.specs.Table.{answer, at_path, redirect_to, unless_redirected, is_get_or_head}
 use Rattle.oci_link.specs.declared.shelf.Shelf.{Shelf}
-use Rattle.shelf_laws.specs.Comes.{IsHeld, Comes}
-use Rattle.shelf_laws.proofs.TableSteps.{Stands, Comes-follow}
+use Rattle.shelf_laws.specs.EvaluatesWith.{IsHeld, EvaluatesWith}
+use Rattle.shelf_laws.proofs.TableSteps.{Stands, EvaluatesWith-follow}
 use Rattle.shelf_laws.proofs.ReadUrls.{Visible, request_read}
 
 -- ---- each redirect
@@ -190,39 +190,39 @@ never_none : (n : ℕ) (redirects : Texts) (text value : List ℕ) → map.get r
 never_none n redirects text value is ends = ap (λ o. option_map_or (ends_within n redirects) o true) (sym is) ∙ ends
 
 -- a step of a redirect that is followed
-Comes-turn : {K A : Type 0} (table : Request → Answer) (Q : K → A → Type 0) (n : ℕ) (request there : Request) (reading : AnswerHead → Reading) (next : Request → Reply → Proto K A) (x : Answer) (k : K)
-    → table request ≡ x → redirected request (head_part x) ≡ Some there → Comes table Q (follow n there reading next) k → Comes table Q (follow (suc n) request reading next) k
-unfolding Comes follow turned
-Comes-turn {K} {A} table Q n request there reading next x k is some h =
-    let gone : Comes table Q (go_if (redirected request (head_part x)) (λ r. follow n r reading next) (next request (Headed (head_part x)))) k = subst (λ (o : Option Request). Comes table Q (go_if o (λ r. follow n r reading next) (next request (Headed (head_part x)))) k) (sym some) h in
-    let read : IsHeld (turned request reading (head_part x)) × Comes table Q (turn request (λ r. follow n r reading next) (next request) (reply_of (turned request reading (head_part x)) x)) k =
-    subst (λ (o : Option Request). IsHeld (unread_if o (reading (head_part x))) × Comes table Q (turn request (λ r. follow n r reading next) (next request) (reply_of (unread_if o (reading (head_part x))) x)) k) (sym some) (tt, gone) in
-    subst (λ (y : Answer). IsHeld (turned request reading (head_part y)) × Comes table Q (turn request (λ r. follow n r reading next) (next request) (reply_of (turned request reading (head_part y)) y)) k) (sym is) read
+EvaluatesWith-turn : {K A : Type 0} (table : Request → Answer) (Q : K → A → Type 0) (n : ℕ) (request there : Request) (reading : AnswerHead → Reading) (next : Request → Reply → Proto K A) (x : Answer) (k : K)
+    → table request ≡ x → redirected request (head_part x) ≡ Some there → EvaluatesWith table Q (follow n there reading next) k → EvaluatesWith table Q (follow (suc n) request reading next) k
+unfolding EvaluatesWith follow turned
+EvaluatesWith-turn {K} {A} table Q n request there reading next x k is some h =
+    let gone : EvaluatesWith table Q (go_if (redirected request (head_part x)) (λ r. follow n r reading next) (next request (Headed (head_part x)))) k = subst (λ (o : Option Request). EvaluatesWith table Q (go_if o (λ r. follow n r reading next) (next request (Headed (head_part x)))) k) (sym some) h in
+    let read : IsHeld (turned request reading (head_part x)) × EvaluatesWith table Q (turn request (λ r. follow n r reading next) (next request) (reply_of (turned request reading (head_part x)) x)) k =
+    subst (λ (o : Option Request). IsHeld (unread_if o (reading (head_part x))) × EvaluatesWith table Q (turn request (λ r. follow n r reading next) (next request) (reply_of (unread_if o (reading (head_part x))) x)) k) (sym some) (tt, gone) in
+    subst (λ (y : Answer). IsHeld (turned request reading (head_part y)) × EvaluatesWith table Q (turn request (λ r. follow n r reading next) (next request) (reply_of (turned request reading (head_part y)) y)) k) (sym is) read
 
 -- a request whose redirects are followed gets what the shelf has under its path, whichever request was the last
-module _ {K A : Type 0} {shelf : Shelf} (lead : IsTrue (redirects_lead shelf)) (Q : K → A → Type 0) (reading : AnswerHead → Reading) (next : Request → Reply → Proto K A) (x : Answer) (k : K) (held : IsHeld (reading (head_part x))) (after : (last : Request) → Comes (answer shelf) Q (next last (reply_of (reading (head_part x)) x)) k) where
-  stays : (n : ℕ) (request : Request) → Answers shelf request x → map.get shelf.redirects request.url ≡ None → Comes (answer shelf) Q (follow n request reading next) k
-  stays n request asked none = Comes-follow (answer shelf) Q n request reading next x k (answer_by shelf request None asked.follows none ∙ asked.at) (rest_stands n request x asked.rests) held (after request)
+module _ {K A : Type 0} {shelf : Shelf} (lead : IsTrue (redirects_lead shelf)) (Q : K → A → Type 0) (reading : AnswerHead → Reading) (next : Request → Reply → Proto K A) (x : Answer) (k : K) (held : IsHeld (reading (head_part x))) (after : (last : Request) → EvaluatesWith (answer shelf) Q (next last (reply_of (reading (head_part x)) x)) k) where
+  stays : (n : ℕ) (request : Request) → Answers shelf request x → map.get shelf.redirects request.url ≡ None → EvaluatesWith (answer shelf) Q (follow n request reading next) k
+  stays n request asked none = EvaluatesWith-follow (answer shelf) Q n request reading next x k (answer_by shelf request None asked.follows none ∙ asked.at) (rest_stands n request x asked.rests) held (after request)
 
-  last_step : (request : Request) (o : Option (List ℕ)) → Answers shelf request x → map.get shelf.redirects request.url ≡ o → ends_within 0 shelf.redirects request.url ≡ true → Comes (answer shelf) Q (follow 0 request reading next) k
+  last_step : (request : Request) (o : Option (List ℕ)) → Answers shelf request x → map.get shelf.redirects request.url ≡ o → ends_within 0 shelf.redirects request.url ≡ true → EvaluatesWith (answer shelf) Q (follow 0 request reading next) k
   last_step request None asked none ends = stays 0 request asked none
   last_step request (Some value) asked is ends = absurd (true≢false (sym ends ∙ ap is_none is))
 
   one_step : (n : ℕ) (request : Request) (o : Option (List ℕ)) (asked : Answers shelf request x) → map.get shelf.redirects request.url ≡ o → ends_within (suc n) shelf.redirects request.url ≡ true
-      → ((there : Request) → Answers shelf there x → ends_within n shelf.redirects there.url ≡ true → Comes (answer shelf) Q (follow n there reading next) k) → Comes (answer shelf) Q (follow (suc n) request reading next) k
+      → ((there : Request) → Answers shelf there x → ends_within n shelf.redirects there.url ≡ true → EvaluatesWith (answer shelf) Q (follow n there reading next) k) → EvaluatesWith (answer shelf) Q (follow (suc n) request reading next) k
   one_step n request None asked none ends more = stays (suc n) request asked none
   one_step n request (Some value) asked is ends more =
       let l : Leads shelf request.url value = leads_at shelf request.url value lead is in
       let there = moved_there request asked.url l.url value in
-      Comes-turn (answer shelf) Q n request there reading next (redirect_to value) k (answer_by shelf request (Some value) asked.follows is) (redirect_leads request asked.url asked.follows asked.reads l)
+      EvaluatesWith-turn (answer shelf) Q n request there reading next (redirect_to value) k (answer_by shelf request (Some value) asked.follows is) (redirect_leads request asked.url asked.follows asked.reads l)
       (more there (moves request x asked l) (never_none n shelf.redirects request.url value is ends))
 
-  Comes-steps : (n : ℕ) (request : Request) → Answers shelf request x → ends_within n shelf.redirects request.url ≡ true → Comes (answer shelf) Q (follow n request reading next) k
-  Comes-steps zero request asked ends = last_step request (map.get shelf.redirects request.url) asked refl ends
-  Comes-steps (suc n) request asked ends = one_step n request (map.get shelf.redirects request.url) asked refl ends (λ there a e. Comes-steps n there a e)
+  EvaluatesWith-steps : (n : ℕ) (request : Request) → Answers shelf request x → ends_within n shelf.redirects request.url ≡ true → EvaluatesWith (answer shelf) Q (follow n request reading next) k
+  EvaluatesWith-steps zero request asked ends = last_step request (map.get shelf.redirects request.url) asked refl ends
+  EvaluatesWith-steps (suc n) request asked ends = one_step n request (map.get shelf.redirects request.url) asked refl ends (λ there a e. EvaluatesWith-steps n there a e)
 
-  pub Comes-led : (request : Request) → Answers shelf request x → Comes (answer shelf) Q (follow 10 request reading next) k
-  Comes-led request asked = Comes-steps 10 request asked (ends_ten shelf request.url lead)
+  pub EvaluatesWith-led : (request : Request) → Answers shelf request x → EvaluatesWith (answer shelf) Q (follow 10 request reading next) k
+  EvaluatesWith-led request asked = EvaluatesWith-steps 10 request asked (ends_ten shelf request.url lead)
 
 -- ---- what the shelf has under its paths, with any redirects
 

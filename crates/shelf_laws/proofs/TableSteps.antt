@@ -9,100 +9,100 @@ use Rattle.oci_transport.specs.declared.message.Answer.{Answer}
 use Rattle.oci_transport.specs.declared.message.AnswerHead.{AnswerHead}
 use Rattle.oci_transport.specs.declared.message.Exchange.{Exchange}
 use Rattle.oci_protocol.specs.Proto.{Reading, Unread, Within, Piped, limit_of, Reply, Headed, Answered, Failed, TooLong, SinkFailed, Proto, Done, Ask, Recall, Keep, Consult, bind, unless_refused, ◌>>=◌}
-use Rattle.oci_protocol.specs.Runs.{head_part, IsReply, Runs, Performs, Breaks, Outcome, Meets}
+use Rattle.oci_protocol.specs.Runs.{head_part, IsReply, Runs, Performs, PerformsPrefix, Outcome, Meets}
 use Rattle.oci_protocol.specs.Ends.{UnlessMemory}
 use Rattle.oci_protocol.specs.Follow.{unread_if, turned, go_if, turn, follow}
-use Rattle.oci_protocol.specs.Drive.{reply_of}
+use Rattle.oci_protocol.specs.Evaluation.{reply_of}
 use Rattle.oci_protocol.proofs.Laws.{Runs-count}
-use Rattle.shelf_laws.specs.Comes.{IsHeld, Comes, Yields, OrMemory, Gives, Stays, Reaches}
+use Rattle.shelf_laws.specs.EvaluatesWith.{IsHeld, EvaluatesWith, Yields, OrMemory, AlwaysOk, Preserves, Reaches}
 
 -- ---- steps
 
-pub Comes-more : {K A : Type 0} (table : Request → Answer) (P Q : K → A → Type 0) (p : Proto K A) (k : K) → Comes table P p k → ((l : K) (a : A) → P l a → Q l a) → Comes table Q p k
-unfolding Comes
-Comes-more table P Q (Done a) k h more = more k a h
-Comes-more table P Q (Ask request reading next) k h more = (h.0, Comes-more table P Q (next (reply_of (reading (head_part (table request))) (table request))) k h.1 more)
-Comes-more table P Q (Recall next) k h more = Comes-more table P Q (next k) k h more
-Comes-more table P Q (Keep kept rest) k h more = Comes-more table P Q rest kept h more
-Comes-more table P Q (Consult next) k h more = absurd h
+pub EvaluatesWith-more : {K A : Type 0} (table : Request → Answer) (P Q : K → A → Type 0) (p : Proto K A) (k : K) → EvaluatesWith table P p k → ((l : K) (a : A) → P l a → Q l a) → EvaluatesWith table Q p k
+unfolding EvaluatesWith
+EvaluatesWith-more table P Q (Done a) k h more = more k a h
+EvaluatesWith-more table P Q (Ask request reading next) k h more = (h.0, EvaluatesWith-more table P Q (next (reply_of (reading (head_part (table request))) (table request))) k h.1 more)
+EvaluatesWith-more table P Q (Recall next) k h more = EvaluatesWith-more table P Q (next k) k h more
+EvaluatesWith-more table P Q (Keep kept rest) k h more = EvaluatesWith-more table P Q rest kept h more
+EvaluatesWith-more table P Q (Consult next) k h more = absurd h
 
-pub Comes-bind : {K A B : Type 0} (table : Request → Answer) (P : K → A → Type 0) (Q : K → B → Type 0) (p : Proto K A) (f : A → Proto K B) (k : K) → Comes table P p k → ((l : K) (a : A) → P l a → Comes table Q (f a) l) → Comes table Q (bind p f) k
-unfolding Comes bind
-Comes-bind table P Q (Done a) f k h next = next k a h
-Comes-bind table P Q (Ask request reading rest) f k h next = (h.0, Comes-bind table P Q (rest (reply_of (reading (head_part (table request))) (table request))) f k h.1 next)
-Comes-bind table P Q (Recall rest) f k h next = Comes-bind table P Q (rest k) f k h next
-Comes-bind table P Q (Keep kept rest) f k h next = Comes-bind table P Q rest f kept h next
-Comes-bind table P Q (Consult rest) f k h next = absurd h
+pub EvaluatesWith-bind : {K A B : Type 0} (table : Request → Answer) (P : K → A → Type 0) (Q : K → B → Type 0) (p : Proto K A) (f : A → Proto K B) (k : K) → EvaluatesWith table P p k → ((l : K) (a : A) → P l a → EvaluatesWith table Q (f a) l) → EvaluatesWith table Q (bind p f) k
+unfolding EvaluatesWith bind
+EvaluatesWith-bind table P Q (Done a) f k h next = next k a h
+EvaluatesWith-bind table P Q (Ask request reading rest) f k h next = (h.0, EvaluatesWith-bind table P Q (rest (reply_of (reading (head_part (table request))) (table request))) f k h.1 next)
+EvaluatesWith-bind table P Q (Recall rest) f k h next = EvaluatesWith-bind table P Q (rest k) f k h next
+EvaluatesWith-bind table P Q (Keep kept rest) f k h next = EvaluatesWith-bind table P Q rest f kept h next
+EvaluatesWith-bind table P Q (Consult rest) f k h next = absurd h
 
 module _ {K : Type 0} {I : K → Type 0} {table : Request → Answer} where
-  pub Gives-done : {A E : Type 0} {P : A → Type 0} (r : Result A E) → Yields P r → Gives I table P (Done r)
-  unfolding Comes
-  Gives-done r h = record { gives = λ k is. (is, h) }
+  pub AlwaysOk-done : {A E : Type 0} {P : A → Type 0} (r : Result A E) → Yields P r → AlwaysOk I table P (Done r)
+  unfolding EvaluatesWith
+  AlwaysOk-done r h = record { gives = λ k is. (is, h) }
 
-  pub Gives-more : {A E : Type 0} {P : A → Type 0} (Q : A → Type 0) {p : Proto K (Result A E)} → Gives I table P p → ((a : A) → P a → Q a) → Gives I table Q p
-  Gives-more {A} {E} {P} Q {p} h more = record { gives = λ k is. Comes-more table (λ l r. I l × Yields P r) (λ l r. I l × Yields Q r) p k (h.gives k is) (λ l r found. (found.0, by_result r found.1)) } where
+  pub AlwaysOk-more : {A E : Type 0} {P : A → Type 0} (Q : A → Type 0) {p : Proto K (Result A E)} → AlwaysOk I table P p → ((a : A) → P a → Q a) → AlwaysOk I table Q p
+  AlwaysOk-more {A} {E} {P} Q {p} h more = record { gives = λ k is. EvaluatesWith-more table (λ l r. I l × Yields P r) (λ l r. I l × Yields Q r) p k (h.gives k is) (λ l r found. (found.0, by_result r found.1)) } where
     by_result : (r : Result A E) → Yields P r → Yields Q r
     by_result (Ok a) is = more a is
     by_result (Err e) is = is
 
   -- a part, and then what its result leads to
-  pub Gives-next : {A B E : Type 0} {P : A → Type 0} {Q : B → Type 0} {p : Proto K (Result A E)} (f : A → Proto K (Result B E)) → Gives I table P p → ((a : A) → P a → Gives I table Q (f a)) → Gives I table Q (p >>= f)
-  Gives-next {A} {B} {E} {P} {Q} {p} f h next = record { gives = λ k is. Comes-bind table (λ l r. I l × Yields P r) (λ l r. I l × Yields Q r) p (unless_refused f) k (h.gives k is) (λ l r found. by_result l r found.0 found.1) } where
-    by_result : (l : K) (r : Result A E) → I l → Yields P r → Comes table (λ l r. I l × Yields Q r) (unless_refused f r) l
+  pub AlwaysOk-next : {A B E : Type 0} {P : A → Type 0} {Q : B → Type 0} {p : Proto K (Result A E)} (f : A → Proto K (Result B E)) → AlwaysOk I table P p → ((a : A) → P a → AlwaysOk I table Q (f a)) → AlwaysOk I table Q (p >>= f)
+  AlwaysOk-next {A} {B} {E} {P} {Q} {p} f h next = record { gives = λ k is. EvaluatesWith-bind table (λ l r. I l × Yields P r) (λ l r. I l × Yields Q r) p (unless_refused f) k (h.gives k is) (λ l r found. by_result l r found.0 found.1) } where
+    by_result : (l : K) (r : Result A E) → I l → Yields P r → EvaluatesWith table (λ l r. I l × Yields Q r) (unless_refused f r) l
     by_result l (Ok a) is found = (next a found).gives l is
     by_result l (Err e) is found = absurd found
 
   -- a part whose error is inspected
-  pub Gives-caught : {A B E F : Type 0} {P : A → Type 0} {Q : B → Type 0} {p : Proto K (Result A E)} (f : Result A E → Proto K (Result B F)) → Gives I table P p → ((a : A) → P a → Gives I table Q (f (Ok a))) → Gives I table Q (bind p f)
-  Gives-caught {A} {B} {E} {F} {P} {Q} {p} f h next = record { gives = λ k is. Comes-bind table (λ l r. I l × Yields P r) (λ l r. I l × Yields Q r) p f k (h.gives k is) (λ l r found. by_result l r found.0 found.1) } where
-    by_result : (l : K) (r : Result A E) → I l → Yields P r → Comes table (λ l r. I l × Yields Q r) (f r) l
+  pub AlwaysOk-caught : {A B E F : Type 0} {P : A → Type 0} {Q : B → Type 0} {p : Proto K (Result A E)} (f : Result A E → Proto K (Result B F)) → AlwaysOk I table P p → ((a : A) → P a → AlwaysOk I table Q (f (Ok a))) → AlwaysOk I table Q (bind p f)
+  AlwaysOk-caught {A} {B} {E} {F} {P} {Q} {p} f h next = record { gives = λ k is. EvaluatesWith-bind table (λ l r. I l × Yields P r) (λ l r. I l × Yields Q r) p f k (h.gives k is) (λ l r found. by_result l r found.0 found.1) } where
+    by_result : (l : K) (r : Result A E) → I l → Yields P r → EvaluatesWith table (λ l r. I l × Yields Q r) (f r) l
     by_result l (Ok a) is found = (next a found).gives l is
     by_result l (Err e) is found = absurd found
 
   -- a part that only has to preserve the property of the client state
-  pub Gives-after : {A B E : Type 0} {Q : B → Type 0} {p : Proto K A} (f : A → Proto K (Result B E)) → Stays I table p → ((a : A) → Gives I table Q (f a)) → Gives I table Q (bind p f)
-  Gives-after {A} {B} {E} {Q} {p} f h next = record { gives = λ k is. Comes-bind table (λ l r. I l) (λ l r. I l × Yields Q r) p f k (h.stays k is) (λ l a found. (next a).gives l found) }
+  pub AlwaysOk-after : {A B E : Type 0} {Q : B → Type 0} {p : Proto K A} (f : A → Proto K (Result B E)) → Preserves I table p → ((a : A) → AlwaysOk I table Q (f a)) → AlwaysOk I table Q (bind p f)
+  AlwaysOk-after {A} {B} {E} {Q} {p} f h next = record { gives = λ k is. EvaluatesWith-bind table (λ l r. I l) (λ l r. I l × Yields Q r) p f k (h.stays k is) (λ l a found. (next a).gives l found) }
 
-  pub Gives-stays : {A E : Type 0} {P : A → Type 0} {p : Proto K (Result A E)} → Gives I table P p → Stays I table p
-  Gives-stays {A} {E} {P} {p} h = record { stays = λ k is. Comes-more table (λ l r. I l × Yields P r) (λ l r. I l) p k (h.gives k is) (λ l r found. found.0) }
+  pub AlwaysOk-stays : {A E : Type 0} {P : A → Type 0} {p : Proto K (Result A E)} → AlwaysOk I table P p → Preserves I table p
+  AlwaysOk-stays {A} {E} {P} {p} h = record { stays = λ k is. EvaluatesWith-more table (λ l r. I l × Yields P r) (λ l r. I l) p k (h.gives k is) (λ l r found. found.0) }
 
-  pub Stays-done : {A : Type 0} (a : A) → Stays I table (Done a)
-  unfolding Comes
-  Stays-done a = record { stays = λ k is. is }
+  pub Preserves-done : {A : Type 0} (a : A) → Preserves I table (Done a)
+  unfolding EvaluatesWith
+  Preserves-done a = record { stays = λ k is. is }
 
-  pub Stays-bind : {A B : Type 0} {p : Proto K A} (f : A → Proto K B) → Stays I table p → ((a : A) → Stays I table (f a)) → Stays I table (bind p f)
-  Stays-bind {A} {B} {p} f h next = record { stays = λ k is. Comes-bind table (λ l r. I l) (λ l r. I l) p f k (h.stays k is) (λ l a found. (next a).stays l found) }
+  pub Preserves-bind : {A B : Type 0} {p : Proto K A} (f : A → Proto K B) → Preserves I table p → ((a : A) → Preserves I table (f a)) → Preserves I table (bind p f)
+  Preserves-bind {A} {B} {p} f h next = record { stays = λ k is. EvaluatesWith-bind table (λ l r. I l) (λ l r. I l) p f k (h.stays k is) (λ l a found. (next a).stays l found) }
 
-  pub Stays-next : {A B E : Type 0} {p : Proto K (Result A E)} (f : A → Proto K (Result B E)) → Stays I table p → ((a : A) → Stays I table (f a)) → Stays I table (p >>= f)
-  Stays-next {A} {B} {E} {p} f h next = Stays-bind (unless_refused f) h by_result where
-    by_result : (r : Result A E) → Stays I table (unless_refused f r)
+  pub Preserves-next : {A B E : Type 0} {p : Proto K (Result A E)} (f : A → Proto K (Result B E)) → Preserves I table p → ((a : A) → Preserves I table (f a)) → Preserves I table (p >>= f)
+  Preserves-next {A} {B} {E} {p} f h next = Preserves-bind (unless_refused f) h by_result where
+    by_result : (r : Result A E) → Preserves I table (unless_refused f r)
     by_result (Ok a) = next a
-    by_result (Err e) = Stays-done (Err e)
+    by_result (Err e) = Preserves-done (Err e)
 
 -- ---- steps that may return out of memory
 
 module _ {K : Type 0} {I : K → Type 0} {table : Request → Answer} where
   pub Reaches-done : {A : Type 0} {Q : A → Type 0} (a : A) → Q a → Reaches I table Q (Done a)
-  unfolding Comes
+  unfolding EvaluatesWith
   Reaches-done a h = record { reaches = λ k is. (is, h) }
 
   pub Reaches-bind : {A B : Type 0} {P : A → Type 0} {Q : B → Type 0} {p : Proto K A} (f : A → Proto K B) → Reaches I table P p → ((a : A) → P a → Reaches I table Q (f a)) → Reaches I table Q (bind p f)
-  Reaches-bind {A} {B} {P} {Q} {p} f h next = record { reaches = λ k is. Comes-bind table (λ l a. I l × P a) (λ l b. I l × Q b) p f k (h.reaches k is) (λ l a found. (next a found.1).reaches l found.0) }
+  Reaches-bind {A} {B} {P} {Q} {p} f h next = record { reaches = λ k is. EvaluatesWith-bind table (λ l a. I l × P a) (λ l b. I l × Q b) p f k (h.reaches k is) (λ l a found. (next a found.1).reaches l found.0) }
 
-  pub Reaches-gives : {A E : Type 0} {P : A → Type 0} {p : Proto K (Result A E)} → Gives I table P p → Reaches I table (Yields P) p
+  pub Reaches-gives : {A E : Type 0} {P : A → Type 0} {p : Proto K (Result A E)} → AlwaysOk I table P p → Reaches I table (Yields P) p
   Reaches-gives h = record { reaches = h.gives }
 
-  pub Reaches-strict : {A E : Type 0} (of_memory : E → Bool) {P : A → Type 0} {p : Proto K (Result A E)} → Gives I table P p → Reaches I table (OrMemory of_memory P) p
-  Reaches-strict {A} {E} of_memory {P} {p} h = record { reaches = λ k is. Comes-more table (λ l r. I l × Yields P r) (λ l r. I l × OrMemory of_memory P r) p k (h.gives k is) (λ l r found. (found.0, by_result r found.1)) } where
+  pub Reaches-strict : {A E : Type 0} (of_memory : E → Bool) {P : A → Type 0} {p : Proto K (Result A E)} → AlwaysOk I table P p → Reaches I table (OrMemory of_memory P) p
+  Reaches-strict {A} {E} of_memory {P} {p} h = record { reaches = λ k is. EvaluatesWith-more table (λ l r. I l × Yields P r) (λ l r. I l × OrMemory of_memory P r) p k (h.gives k is) (λ l r found. (found.0, by_result r found.1)) } where
     by_result : (r : Result A E) → Yields P r → OrMemory of_memory P r
     by_result (Ok a) is = is
     by_result (Err e) is = absurd is
 
-  pub Reaches-stays : {A : Type 0} {p : Proto K A} → Stays I table p → Reaches I table (λ a. Unit {0}) p
-  Reaches-stays {A} {p} h = record { reaches = λ k is. Comes-more table (λ l a. I l) (λ l a. I l × Unit {0}) p k (h.stays k is) (λ l a stays. (stays, tt)) }
+  pub Reaches-stays : {A : Type 0} {p : Proto K A} → Preserves I table p → Reaches I table (λ a. Unit {0}) p
+  Reaches-stays {A} {p} h = record { reaches = λ k is. EvaluatesWith-more table (λ l a. I l) (λ l a. I l × Unit {0}) p k (h.stays k is) (λ l a stays. (stays, tt)) }
 
   -- a part that returns `Ok`, and then what its result leads to
-  pub Reaches-after : {A B E : Type 0} {P : A → Type 0} {Q : Result B E → Type 0} {p : Proto K (Result A E)} (f : A → Proto K (Result B E)) → Gives I table P p → ((a : A) → P a → Reaches I table Q (f a)) → Reaches I table Q (p >>= f)
+  pub Reaches-after : {A B E : Type 0} {P : A → Type 0} {Q : Result B E → Type 0} {p : Proto K (Result A E)} (f : A → Proto K (Result B E)) → AlwaysOk I table P p → ((a : A) → P a → Reaches I table Q (f a)) → Reaches I table Q (p >>= f)
   Reaches-after {A} {B} {E} {P} {Q} {p} f h next = Reaches-bind (unless_refused f) (Reaches-gives h) by_result where
     by_result : (r : Result A E) → Yields P r → Reaches I table Q (unless_refused f r)
     by_result (Ok a) is = next a is
@@ -134,31 +134,31 @@ turn_stands {K} {A} request go next answer reading none = by_reading reading whe
   by_reading (Piped limit) = by_length (nat_lt limit (length answer.body))
 
 -- a request whose response is not a redirect that is followed
-pub Comes-follow : {K A : Type 0} (table : Request → Answer) (Q : K → A → Type 0) (n : ℕ) (request : Request) (reading : AnswerHead → Reading) (next : Request → Reply → Proto K A) (answer : Answer) (k : K)
-    → table request ≡ answer → Stands n request answer → IsHeld (reading (head_part answer)) → Comes table Q (next request (reply_of (reading (head_part answer)) answer)) k → Comes table Q (follow n request reading next) k
-unfolding Comes follow turned
-Comes-follow table Q zero request reading next answer k is stands held h = subst (λ (x : Answer). IsHeld (reading (head_part x)) × Comes table Q (next request (reply_of (reading (head_part x)) x)) k) (sym is) (held, h)
-Comes-follow {K} {A} table Q (suc n) request reading next answer k is none held h =
-    let asked : Comes table Q (turn request (λ r. follow n r reading next) (next request) (reply_of (reading (head_part answer)) answer)) k = subst (λ (p : Proto K A). Comes table Q p k) (sym (turn_stands request (λ r. follow n r reading next) (next request) answer (reading (head_part answer)) none)) h in
-    let read : IsHeld (turned request reading (head_part answer)) × Comes table Q (turn request (λ r. follow n r reading next) (next request) (reply_of (turned request reading (head_part answer)) answer)) k =
-    subst (λ (o : Option Request). IsHeld (unread_if o (reading (head_part answer))) × Comes table Q (turn request (λ r. follow n r reading next) (next request) (reply_of (unread_if o (reading (head_part answer))) answer)) k) (sym none) (held, asked) in
-    subst (λ (x : Answer). IsHeld (turned request reading (head_part x)) × Comes table Q (turn request (λ r. follow n r reading next) (next request) (reply_of (turned request reading (head_part x)) x)) k) (sym is) read
+pub EvaluatesWith-follow : {K A : Type 0} (table : Request → Answer) (Q : K → A → Type 0) (n : ℕ) (request : Request) (reading : AnswerHead → Reading) (next : Request → Reply → Proto K A) (answer : Answer) (k : K)
+    → table request ≡ answer → Stands n request answer → IsHeld (reading (head_part answer)) → EvaluatesWith table Q (next request (reply_of (reading (head_part answer)) answer)) k → EvaluatesWith table Q (follow n request reading next) k
+unfolding EvaluatesWith follow turned
+EvaluatesWith-follow table Q zero request reading next answer k is stands held h = subst (λ (x : Answer). IsHeld (reading (head_part x)) × EvaluatesWith table Q (next request (reply_of (reading (head_part x)) x)) k) (sym is) (held, h)
+EvaluatesWith-follow {K} {A} table Q (suc n) request reading next answer k is none held h =
+    let asked : EvaluatesWith table Q (turn request (λ r. follow n r reading next) (next request) (reply_of (reading (head_part answer)) answer)) k = subst (λ (p : Proto K A). EvaluatesWith table Q p k) (sym (turn_stands request (λ r. follow n r reading next) (next request) answer (reading (head_part answer)) none)) h in
+    let read : IsHeld (turned request reading (head_part answer)) × EvaluatesWith table Q (turn request (λ r. follow n r reading next) (next request) (reply_of (turned request reading (head_part answer)) answer)) k =
+    subst (λ (o : Option Request). IsHeld (unread_if o (reading (head_part answer))) × EvaluatesWith table Q (turn request (λ r. follow n r reading next) (next request) (reply_of (unread_if o (reading (head_part answer))) answer)) k) (sym none) (held, asked) in
+    subst (λ (x : Answer). IsHeld (turned request reading (head_part x)) × EvaluatesWith table Q (turn request (λ r. follow n r reading next) (next request) (reply_of (turned request reading (head_part x)) x)) k) (sym is) read
 
 -- for any responses
-pub Stays-follow : {K A : Type 0} (I : K → Type 0) (table : Request → Answer) (n : ℕ) (request : Request) (reading : AnswerHead → Reading) (next : Request → Reply → Proto K A)
-    → ((head : AnswerHead) → IsHeld (reading head)) → ((last : Request) (reply : Reply) → Stays I table (next last reply)) → Stays I table (follow n request reading next)
-unfolding Comes follow turned
-Stays-follow I table zero request reading next held h = record { stays = λ k is. (held (head_part (table request)), (h request (reply_of (reading (head_part (table request))) (table request))).stays k is) }
-Stays-follow {K} {A} I table (suc n) request reading next held h = record { stays = λ k is. (held_if (redirected request (head_part (table request))), (turned_stays (λ r. Stays-follow I table n r reading next held h) (reply_of (turned request reading (head_part (table request))) (table request))).stays k is) } where
+pub Preserves-follow : {K A : Type 0} (I : K → Type 0) (table : Request → Answer) (n : ℕ) (request : Request) (reading : AnswerHead → Reading) (next : Request → Reply → Proto K A)
+    → ((head : AnswerHead) → IsHeld (reading head)) → ((last : Request) (reply : Reply) → Preserves I table (next last reply)) → Preserves I table (follow n request reading next)
+unfolding EvaluatesWith follow turned
+Preserves-follow I table zero request reading next held h = record { stays = λ k is. (held (head_part (table request)), (h request (reply_of (reading (head_part (table request))) (table request))).stays k is) }
+Preserves-follow {K} {A} I table (suc n) request reading next held h = record { stays = λ k is. (held_if (redirected request (head_part (table request))), (turned_stays (λ r. Preserves-follow I table n r reading next held h) (reply_of (turned request reading (head_part (table request))) (table request))).stays k is) } where
   held_if : (o : Option Request) → IsHeld (unread_if o (reading (head_part (table request))))
   held_if (Some r) = tt
   held_if None = held (head_part (table request))
 
-  gone : ((r : Request) → Stays I table (follow n r reading next)) → (o : Option Request) (reply : Reply) → Stays I table (go_if o (λ r. follow n r reading next) (next request reply))
+  gone : ((r : Request) → Preserves I table (follow n r reading next)) → (o : Option Request) (reply : Reply) → Preserves I table (go_if o (λ r. follow n r reading next) (next request reply))
   gone go (Some r) reply = go r
   gone go None reply = h request reply
 
-  turned_stays : ((r : Request) → Stays I table (follow n r reading next)) → (reply : Reply) → Stays I table (turn request (λ r. follow n r reading next) (next request) reply)
+  turned_stays : ((r : Request) → Preserves I table (follow n r reading next)) → (reply : Reply) → Preserves I table (turn request (λ r. follow n r reading next) (next request) reply)
   turned_stays go (Headed head) = gone go (redirected request head) (Headed head)
   turned_stays go (Answered answer) = h request (Answered answer)
   turned_stays go Failed = h request Failed
@@ -200,8 +200,8 @@ one_reply reading e answer after TooLong by le lt held h = let same : answer ≡
 one_reply reading e answer after SinkFailed by le lt held h = let same : answer ≡ h.0 = cc (sym by ∙ h.2) in absurd (subst IsHeld h.3 (subst (λ (x : Answer). IsHeld (reading (head_part x))) same held))
 
 -- a run without faults over the table
-Runs-comes : {K A : Type 0} (table : Request → Answer) (Q : K → A → Type 0) (p : Proto K A) (k l : K) (m n : ℕ) (c : List Exchange) (a : A) → Comes table Q p k → AllBy table c → n ≤ m → m < 2 ^ 64 - 1 → Runs p k m c n l a → Q l a
-unfolding Comes Runs
+Runs-comes : {K A : Type 0} (table : Request → Answer) (Q : K → A → Type 0) (p : Proto K A) (k l : K) (m n : ℕ) (c : List Exchange) (a : A) → EvaluatesWith table Q p k → AllBy table c → n ≤ m → m < 2 ^ 64 - 1 → Runs p k m c n l a → Q l a
+unfolding EvaluatesWith Runs
 Runs-comes table Q (Done x) k l m n [] a h by le lt r = subst (λ y. Q l y) r.2 (subst (λ j. Q j x) r.1 h)
 Runs-comes table Q (Done x) k l m n (e ∷ c) a h by le lt r = absurd r
 Runs-comes table Q (Ask request reading next) k l m n [] a h by le lt r = absurd r
@@ -211,25 +211,25 @@ Runs-comes table Q (Ask request reading next) k l m n (e ∷ c) a h by le lt r =
     let same : e.faults ≡ m = r.2.faults_is in
     let reply : r.1 ≡ reply_of (reading (head_part (table request))) (table request) =
     one_reply reading e (table request) r.0 r.1 (by.0 ∙ ap (λ x. Some (table x)) r.2.request_is) (omega arith) (omega arith) h.0 r.2.reply_is in
-    Runs-comes table Q (next r.1) k l r.0 n c a (subst (λ x. Comes table Q (next x) k) (sym reply) h.1) by.1 (omega arith) (omega arith) r.3
+    Runs-comes table Q (next r.1) k l r.0 n c a (subst (λ x. EvaluatesWith table Q (next x) k) (sym reply) h.1) by.1 (omega arith) (omega arith) r.3
 Runs-comes table Q (Recall next) k l m n c a h by le lt r = Runs-comes table Q (next k) k l m n c a h by le lt r
 Runs-comes table Q (Keep kept rest) k l m n c a h by le lt r = Runs-comes table Q rest kept l m n c a h by le lt r
 Runs-comes table Q (Consult next) k l m n c a h by le lt r = absurd h
 
 -- a complete run over a transport that responds by the table, without faults
-pub Runs-over : {K A : Type 0} (table : Request → Answer) (Q : K → A → Type 0) (t : Answering) (p : Proto K A) (place : ℕ) (k l : K) (m n : ℕ) (c : List Exchange) (a : A) → TableOf table t → Comes table Q p k → AnsweredBy t place c → n ≤ m → m < 2 ^ 64 - 1 → Runs p k m c n l a → Q l a
+pub Runs-over : {K A : Type 0} (table : Request → Answer) (Q : K → A → Type 0) (t : Answering) (p : Proto K A) (place : ℕ) (k l : K) (m n : ℕ) (c : List Exchange) (a : A) → TableOf table t → EvaluatesWith table Q p k → AnsweredBy t place c → n ≤ m → m < 2 ^ 64 - 1 → Runs p k m c n l a → Q l a
 Runs-over table Q t p place k l m n c a by comes answered le lt run = Runs-comes table Q p k l m n c a comes (all_by table t place c by answered) le lt run
 
 -- the result of a call over a transport that responds by the table, unless memory ran out
 pub Meets-comes : {K A E : Type 0} {of_memory : E → Bool} (table : Request → Answer) (Q : K → Result A E → Type 0) (t : Answering) (p : Proto K (Result A E)) (before : List Exchange) (old new : Link) (k l : K) (r : Result A E)
-    → TableOf table t → old.answers ≡ Some t → old.told ≡ Some before → old.faults < 2 ^ 64 - 1 → Comes table Q p k → Meets of_memory p old new k l r → UnlessMemory of_memory (λ r. Q l r) r
+    → TableOf table t → old.answers ≡ Some t → old.told ≡ Some before → old.faults < 2 ^ 64 - 1 → EvaluatesWith table Q p k → Meets of_memory p old new k l r → UnlessMemory of_memory (λ r. Q l r) r
 Meets-comes {K} {A} {E} {of_memory} table Q t p before old new k l r by answers told lt comes met = by_result r met.outcome where
   performed : (r : Result A E) → Performs p old new k l r → Q l r
   performed r run =
       let quiet : new.faults ≡ old.faults = run.told.stays.quiet t answers by.never in
       Runs-comes table Q p k l old.faults new.faults run.conversation r comes (all_by table t (length before) run.conversation by (run.told.table t before answers told)) (omega (arith, quiet)) lt run.runs
 
-  by_memory : (b : Bool) (e : E) → MatchBool b (Breaks p old new k l) (Performs p old new k l (Err e)) → MatchBool b (Unit {0}) (Q l (Err e))
+  by_memory : (b : Bool) (e : E) → MatchBool b (PerformsPrefix p old new k l) (Performs p old new k l (Err e)) → MatchBool b (Unit {0}) (Q l (Err e))
   by_memory true e run = tt
   by_memory false e run = performed (Err e) run
 

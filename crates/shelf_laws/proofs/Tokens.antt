@@ -20,14 +20,14 @@ use Rattle.oci_auth.specs.declared.auth.RegistryAuth.{RegistryAuth}
 use Rattle.oci_auth.specs.declared.auth.RegistryAuth.TheVariants.{Anonymous, Basic, Bearer}
 use Rattle.oci_auth.specs.declared.cache.TokenCache.{TokenCache}
 use Rattle.oci_auth.specs.declared.kept.KeptToken.{KeptToken}
-use Rattle.oci_auth.specs.declared.memory.Memory.{Memory}
+use Rattle.oci_auth.specs.declared.auth_state.AuthState.{AuthState}
 use Rattle.oci_auth.specs.declared.token.RegistryToken.TheVariants.{Token}
 use Rattle.oci_auth.specs.declared.token_type.RegistryOperation.TheVariants.{Pull}
 use Rattle.oci_auth.specs.declared.token_type.RegistryTokenType.{RegistryTokenType}
 use Rattle.oci_auth.specs.declared.token_type.RegistryTokenType.TheVariants as shown
 use Rattle.oci_auth.specs.Cache.{key_of, kept_until, kept_token, given_at, token_at}
 use Rattle.oci_auth.specs.Kept.{Key, under, kept_under, inserted}
-use Rattle.oci_auth.specs.Memory.{fresh, stored}
+use Rattle.oci_auth.specs.AuthState.{fresh, stored}
 use Rattle.oci_auth.proofs.Places.{is_kept}
 use Rattle.oci_protocol.specs.Proto.{read_none, bind}
 use Rattle.oci_link.specs.Table.{answer}
@@ -39,21 +39,21 @@ use Rattle.engine_terms.specs.Contexts.{Context}
 use Rattle.engine_requests.specs.Requests.{request_of}
 use Rattle.engine_requests.specs.Tokens.{wanted, wanted_in}
 use Rattle.engine_rows.specs.Rows.{Row, head_reply, head_after, store, fetched, registry_asked, token_step, with_kept, taken, token_asked, kept_or_asked, token_by, token_for, goes_to, token_where, authorized, prepared, kept_text, token_given}
-use Rattle.shelf_laws.specs.Comes.{Comes, Yields, Gives}
-use Rattle.shelf_laws.specs.Home.{front_of, Home, IsAt, CanBeShown, shown_unasked, NoneBut, IsToken, Settled}
-use Rattle.shelf_laws.proofs.TableSteps.{Comes-follow, Gives-done, Gives-next, Gives-more, Gives-caught}
+use Rattle.shelf_laws.specs.EvaluatesWith.{EvaluatesWith, Yields, AlwaysOk}
+use Rattle.shelf_laws.specs.IsHosted.{base_of, IsHosted, IsAt, CanBeShown, shown_unasked, NoneOr, IsToken, Settled}
+use Rattle.shelf_laws.proofs.TableSteps.{EvaluatesWith-follow, AlwaysOk-done, AlwaysOk-next, AlwaysOk-more, AlwaysOk-caught}
 use Rattle.shelf_laws.proofs.Places.{base_unasked, base_text_is, registry_text_is}
 use Rattle.shelf_laws.proofs.PlainNames.{base_plain}
 use Rattle.shelf_laws.proofs.Requests.{yields_ok, CanStand, IsFor, request_made, bare_made, url_reads}
 
 -- ---- the client state
 
-pub settled_stored : (registry repository : List ℕ) (a : RegistryAuth) (k : Memory) → Settled registry repository a k → Settled registry repository a (stored k registry a)
+pub settled_stored : (registry repository : List ℕ) (a : RegistryAuth) (k : AuthState) → Settled registry repository a k → Settled registry repository a (stored k registry a)
 settled_stored registry repository a k h = by_kept (map.get k.credentials registry) refl h.credentials where
   inserted_here : map.get (map.insert k.credentials registry a) registry ≡ Some a
   inserted_here = get-insert nat_list_cmp_total k.credentials registry a registry ∙ ap (λ b. cond b (Some a) (map.get k.credentials registry)) ((eq_by_cmp_equiv nat_list_cmp_total).refl registry)
 
-  by_kept : (o : Option RegistryAuth) → map.get k.credentials registry ≡ o → NoneBut o (Some a) → Settled registry repository a (cond (is_some o) k (record k { credentials = map.insert k.credentials registry a }))
+  by_kept : (o : Option RegistryAuth) → map.get k.credentials registry ≡ o → NoneOr o (Some a) → Settled registry repository a (cond (is_some o) k (record k { credentials = map.insert k.credentials registry a }))
   by_kept None is none = record { credentials = inr inserted_here; token = h.token }
   by_kept (Some b) is kept = h
 
@@ -66,20 +66,20 @@ is_token_kept : (registry repository : List ℕ) (a : RegistryAuth) (cache : Tok
 is_token_kept registry repository a cache token None own before = before
 is_token_kept registry repository a cache token (Some n) own before = subst (IsToken a) (sym (is_kept cache.tokens (kept_token (under registry repository Pull) token n)).here) own
 
-settled_kept : (registry repository : List ℕ) (a : RegistryAuth) (k : Memory) (token : RegistryTokenType) (moment : ℕ) → Some token ≡ shown_unasked a → Settled registry repository a k → Settled registry repository a (with_kept k (under registry repository Pull) token moment)
+settled_kept : (registry repository : List ℕ) (a : RegistryAuth) (k : AuthState) (token : RegistryTokenType) (moment : ℕ) → Some token ≡ shown_unasked a → Settled registry repository a k → Settled registry repository a (with_kept k (under registry repository Pull) token moment)
 settled_kept registry repository a k token moment own h = record { credentials = h.credentials; token = is_token_kept registry repository a k.tokens token (kept_until token k.tokens.default_expiration_secs moment) own h.token }
 
 -- the stored token, if there is one
-token_kept : (a : RegistryAuth) (o : Option KeptToken) (moment : ℕ) → IsToken a o → NoneBut (option_and_then (given_at moment) o) (shown_unasked a)
+token_kept : (a : RegistryAuth) (o : Option KeptToken) (moment : ℕ) → IsToken a o → NoneOr (option_and_then (given_at moment) o) (shown_unasked a)
 token_kept a None moment h = inl refl
 token_kept a (Some kept) moment h = by_test (nat_le moment kept.expiration) where
-  by_test : (b : Bool) → NoneBut (cond b (Some kept.token) None) (shown_unasked a)
+  by_test : (b : Bool) → NoneOr (cond b (Some kept.token) None) (shown_unasked a)
   by_test true = inr h
   by_test false = inl refl
 
 -- ---- the step
 
-can_show : (a : RegistryAuth) (token : Option RegistryTokenType) → CanBeShown a → NoneBut token (shown_unasked a) → CanStand token
+can_show : (a : RegistryAuth) (token : Option RegistryTokenType) → CanBeShown a → NoneOr token (shown_unasked a) → CanStand token
 can_show a token can (inl none) = subst CanStand (sym none) tt
 can_show a token can (inr own) = subst CanStand (sym own) (by_kind a can) where
   by_kind : (a : RegistryAuth) → CanBeShown a → CanStand (shown_unasked a)
@@ -91,109 +91,109 @@ wants_nothing : (head : AnswerHead) → first_of (codes "www-authenticate") head
 unfolding wanted
 wants_nothing head is = ap wanted_in is
 
-module _ {s : Settings} {registry : List ℕ} {shelf : Shelf} (home : Home s registry shelf) (image : Reference) (at : IsAt registry shelf image) (a : RegistryAuth) (can : CanBeShown a) (moment : ℕ) where
-  abbrev I : Memory → Type 0
+module _ {s : Settings} {registry : List ℕ} {shelf : Shelf} (home : IsHosted s registry shelf) (image : Reference) (at : IsAt registry shelf image) (a : RegistryAuth) (can : CanBeShown a) (moment : ℕ) where
+  abbrev I : AuthState → Type 0
   I k = Settled registry shelf.repository a k
 
   abbrev ctx : Context
   ctx = record { settings = s; moment = moment }
 
-  pub store_gives : Gives I (answer shelf) (λ u. Unit {0}) (store image a)
-  unfolding store Comes bind
+  pub store_gives : AlwaysOk I (answer shelf) (λ u. Unit {0}) (store image a)
+  unfolding store EvaluatesWith bind
   store_gives = record { gives = λ k h. (subst (λ (r : List ℕ). Settled registry shelf.repository a (stored k r a)) (sym at.registry_is) (settled_stored registry shelf.repository a k h), tt) }
 
   abbrev Unasked : AnswerHead → Type 0
   Unasked head = first_of (codes "www-authenticate") head.headers ≡ None
 
   -- the shelf requires nothing
-  base_head : (request : Request) → IsFor Get (front_of s registry ++ codes "/v2/") request → Gives I (answer shelf) Unasked (head_after 0 request)
-  unfolding head_after read_none Comes
+  base_head : (request : Request) → IsFor Get (base_of s registry ++ codes "/v2/") request → AlwaysOk I (answer shelf) Unasked (head_after 0 request)
+  unfolding head_after read_none EvaluatesWith
   base_head request is = record {
-    gives = λ k h. Comes-follow (answer shelf) (λ l r. I l × Yields Unasked r) 0 request read_none head_reply (answer shelf request) k refl tt tt (h, base_unasked home request is.url_is);
+    gives = λ k h. EvaluatesWith-follow (answer shelf) (λ l r. I l × Yields Unasked r) 0 request read_none head_reply (answer shelf request) k refl tt tt (h, base_unasked home request is.url_is);
   }
 
-  asked_nothing : Gives I (answer shelf) (λ (o : Option RegistryTokenType). o ≡ None) (registry_asked s image a Pull)
+  asked_nothing : AlwaysOk I (answer shelf) (λ (o : Option RegistryTokenType). o ≡ None) (registry_asked s image a Pull)
   unfolding registry_asked
   asked_nothing =
-      Gives-next _ (Gives-done (url_read (base_text s image)) (url_reads home (base_text s image) (codes "/v2/") (base_text_is home at) base_plain)) (λ url is.
-      Gives-next _ (Gives-done (request_of s Get url None None) (bare_made s Get url home.agent)) (λ request made.
-      Gives-next _ (base_head request (record { method_is = made.method_is; url_is = made.url_is ∙ is.text_is })) (λ head none.
-      subst (λ w. Gives I (answer shelf) (λ (o : Option RegistryTokenType). o ≡ None) (fetched s image a Pull w)) (sym (wants_nothing head none)) (Gives-done (Ok None) refl))))
+      AlwaysOk-next _ (AlwaysOk-done (url_read (base_text s image)) (url_reads home (base_text s image) (codes "/v2/") (base_text_is home at) base_plain)) (λ url is.
+      AlwaysOk-next _ (AlwaysOk-done (request_of s Get url None None) (bare_made s Get url home.agent)) (λ request made.
+      AlwaysOk-next _ (base_head request (record { method_is = made.method_is; url_is = made.url_is ∙ is.text_is })) (λ head none.
+      subst (λ w. AlwaysOk I (answer shelf) (λ (o : Option RegistryTokenType). o ≡ None) (fetched s image a Pull w)) (sym (wants_nothing head none)) (AlwaysOk-done (Ok None) refl))))
 
   abbrev key : Key
   key = key_of image Pull
 
   abbrev Shown : Option RegistryTokenType → Type 0
-  Shown o = NoneBut o (shown_unasked a)
+  Shown o = NoneOr o (shown_unasked a)
 
   -- the same if the client state is stated with the image's own names
-  spelled : {A : Type 0} {P : A → Type 0} {p : Row A} → Gives (λ k. Settled (resolved_registry image) (repository_of image) a k) (answer shelf) P p → Gives I (answer shelf) P p
-  spelled {A} {P} {p} h = subst (λ (r : List ℕ). Gives (λ k. Settled r shelf.repository a k) (answer shelf) P p) at.registry_is (subst (λ (r : List ℕ). Gives (λ k. Settled (resolved_registry image) r a k) (answer shelf) P p) at.repository_is h)
+  spelled : {A : Type 0} {P : A → Type 0} {p : Row A} → AlwaysOk (λ k. Settled (resolved_registry image) (repository_of image) a k) (answer shelf) P p → AlwaysOk I (answer shelf) P p
+  spelled {A} {P} {p} h = subst (λ (r : List ℕ). AlwaysOk (λ k. Settled r shelf.repository a k) (answer shelf) P p) at.registry_is (subst (λ (r : List ℕ). AlwaysOk (λ k. Settled (resolved_registry image) r a k) (answer shelf) P p) at.repository_is h)
 
-  own_taken : (token : RegistryTokenType) → Some token ≡ shown_unasked a → Gives (λ k. Settled (resolved_registry image) (repository_of image) a k) (answer shelf) Shown (taken moment key (Ok (Some token)))
-  unfolding Comes
+  own_taken : (token : RegistryTokenType) → Some token ≡ shown_unasked a → AlwaysOk (λ k. Settled (resolved_registry image) (repository_of image) a k) (answer shelf) Shown (taken moment key (Ok (Some token)))
+  unfolding EvaluatesWith
   own_taken token own = record { gives = λ k h. (settled_kept (resolved_registry image) (repository_of image) a k token moment own h, inr own) }
 
-  asked_gives : Gives I (answer shelf) Shown (token_asked ctx image Pull a)
+  asked_gives : AlwaysOk I (answer shelf) Shown (token_asked ctx image Pull a)
   unfolding token_asked bind
   asked_gives = by_kind a refl where
-    by_kind : (b : RegistryAuth) → a ≡ b → Gives I (answer shelf) Shown (bind (token_step s image b Pull) (taken moment key))
+    by_kind : (b : RegistryAuth) → a ≡ b → AlwaysOk I (answer shelf) Shown (bind (token_step s image b Pull) (taken moment key))
     by_kind (Bearer text) is = spelled (own_taken (shown.Bearer (Token text)) (sym (ap shown_unasked is)))
-    by_kind (Basic user password) is = Gives-caught (taken moment key) (subst (λ b. Gives I (answer shelf) (λ (o : Option RegistryTokenType). o ≡ None) (registry_asked s image b Pull)) is asked_nothing) (λ o none. subst (λ (o : Option RegistryTokenType). Gives I (answer shelf) Shown (taken moment key (Ok o))) (sym none) (Gives-done (Ok None) (inl refl)))
-    by_kind Anonymous is = Gives-caught (taken moment key) (subst (λ b. Gives I (answer shelf) (λ (o : Option RegistryTokenType). o ≡ None) (registry_asked s image b Pull)) is asked_nothing) (λ o none. subst (λ (o : Option RegistryTokenType). Gives I (answer shelf) Shown (taken moment key (Ok o))) (sym none) (Gives-done (Ok None) (inl refl)))
+    by_kind (Basic user password) is = AlwaysOk-caught (taken moment key) (subst (λ b. AlwaysOk I (answer shelf) (λ (o : Option RegistryTokenType). o ≡ None) (registry_asked s image b Pull)) is asked_nothing) (λ o none. subst (λ (o : Option RegistryTokenType). AlwaysOk I (answer shelf) Shown (taken moment key (Ok o))) (sym none) (AlwaysOk-done (Ok None) (inl refl)))
+    by_kind Anonymous is = AlwaysOk-caught (taken moment key) (subst (λ b. AlwaysOk I (answer shelf) (λ (o : Option RegistryTokenType). o ≡ None) (registry_asked s image b Pull)) is asked_nothing) (λ o none. subst (λ (o : Option RegistryTokenType). AlwaysOk I (answer shelf) Shown (taken moment key (Ok o))) (sym none) (AlwaysOk-done (Ok None) (inl refl)))
 
-  kept_gives : (o : Option RegistryTokenType) → NoneBut o (shown_unasked a) → Gives I (answer shelf) Shown (kept_or_asked ctx image Pull a o)
+  kept_gives : (o : Option RegistryTokenType) → NoneOr o (shown_unasked a) → AlwaysOk I (answer shelf) Shown (kept_or_asked ctx image Pull a o)
   kept_gives None h = asked_gives
   kept_gives (Some token) (inl none) = absurd (cc none)
-  kept_gives (Some token) (inr own) = Gives-done (Ok (Some token)) (inr own)
+  kept_gives (Some token) (inr own) = AlwaysOk-done (Ok (Some token)) (inr own)
 
-  by_gives : (stored_is : Option RegistryAuth) (o : Option RegistryTokenType) → NoneBut stored_is (Some a) → NoneBut o (shown_unasked a) → Gives I (answer shelf) Shown (token_by ctx image Pull stored_is o)
-  by_gives stored_is o (inl none) h = subst (λ (b : Option RegistryAuth). Gives I (answer shelf) Shown (token_by ctx image Pull b o)) (sym none) (Gives-done (Ok None) (inl refl))
-  by_gives stored_is o (inr own) h = subst (λ (b : Option RegistryAuth). Gives I (answer shelf) Shown (token_by ctx image Pull b o)) (sym own) (kept_gives o h)
+  by_gives : (stored_is : Option RegistryAuth) (o : Option RegistryTokenType) → NoneOr stored_is (Some a) → NoneOr o (shown_unasked a) → AlwaysOk I (answer shelf) Shown (token_by ctx image Pull stored_is o)
+  by_gives stored_is o (inl none) h = subst (λ (b : Option RegistryAuth). AlwaysOk I (answer shelf) Shown (token_by ctx image Pull b o)) (sym none) (AlwaysOk-done (Ok None) (inl refl))
+  by_gives stored_is o (inr own) h = subst (λ (b : Option RegistryAuth). AlwaysOk I (answer shelf) Shown (token_by ctx image Pull b o)) (sym own) (kept_gives o h)
 
-  token_gives : Gives I (answer shelf) Shown (token_for ctx image Pull)
-  unfolding token_for Comes bind
+  token_gives : AlwaysOk I (answer shelf) Shown (token_for ctx image Pull)
+  unfolding token_for EvaluatesWith bind
   token_gives = record {
     gives = λ k h. (by_gives (map.get k.credentials (resolved_registry image)) (token_at k.tokens key moment)
-        (subst (λ (r : List ℕ). NoneBut (map.get k.credentials r) (Some a)) (sym at.registry_is) h.credentials)
+        (subst (λ (r : List ℕ). NoneOr (map.get k.credentials r) (Some a)) (sym at.registry_is) h.credentials)
         (token_kept a (kept_under key k.tokens.tokens) moment (subst (λ (r : List ℕ). IsToken a (kept_under (under r (repository_of image) Pull) k.tokens.tokens)) (sym at.registry_is) (subst (λ (r : List ℕ). IsToken a (kept_under (under registry r Pull) k.tokens.tokens)) (sym at.repository_is) h.token)))).gives k h;
   }
 
   -- ---- the request with its token
 
-  where_gives : (b : Bool) → Gives I (answer shelf) Shown (token_where ctx image Pull b)
+  where_gives : (b : Bool) → AlwaysOk I (answer shelf) Shown (token_where ctx image Pull b)
   where_gives true = token_gives
-  where_gives false = Gives-done (Ok None) (inl refl)
+  where_gives false = AlwaysOk-done (Ok None) (inl refl)
 
-  authorized_gives : (url : Parts) → Gives I (answer shelf) Shown (authorized ctx image Pull url)
+  authorized_gives : (url : Parts) → AlwaysOk I (answer shelf) Shown (authorized ctx image Pull url)
   unfolding authorized
   authorized_gives url =
-      Gives-next _ (Gives-done (url_read (registry_text s image)) (yields_ok (λ (u : Parts). Unit {0}) (url_read (registry_text s image)) home.written.url (ap url_read (registry_text_is home at) ∙ ap (url_or (front_of s registry)) home.written.reads) tt)) (λ u is.
+      AlwaysOk-next _ (AlwaysOk-done (url_read (registry_text s image)) (yields_ok (λ (u : Parts). Unit {0}) (url_read (registry_text s image)) home.written.url (ap url_read (registry_text_is home at) ∙ ap (url_or (base_of s registry)) home.written.reads) tt)) (λ u is.
       where_gives (goes_to (request_url (serialize url)) u))
 
-  pub prepared_gives : (method : Method) (url : Parts) (types : List ℕ) → is_header_value types ≡ true → Gives I (answer shelf) (IsFor method (serialize url)) (prepared ctx image Pull method url types)
+  pub prepared_gives : (method : Method) (url : Parts) (types : List ℕ) → is_header_value types ≡ true → AlwaysOk I (answer shelf) (IsFor method (serialize url)) (prepared ctx image Pull method url types)
   unfolding prepared
   prepared_gives method url types listed =
-      Gives-next _ (authorized_gives url) (λ token shown. Gives-done (request_of s method url (Some types) token) (request_made s method url types token home.agent listed (can_show a token can shown)))
+      AlwaysOk-next _ (authorized_gives url) (λ token shown. AlwaysOk-done (request_of s method url (Some types) token) (request_made s method url types token home.agent listed (can_show a token can shown)))
 
   -- ---- credentials that are passed in for a token
 
-  step_gives : Gives I (answer shelf) Shown (token_step s image a Pull)
+  step_gives : AlwaysOk I (answer shelf) Shown (token_step s image a Pull)
   step_gives = by_kind a refl where
-    by_kind : (b : RegistryAuth) → a ≡ b → Gives I (answer shelf) Shown (token_step s image b Pull)
-    by_kind (Bearer text) is = Gives-done (Ok (Some (shown.Bearer (Token text)))) (inr (sym (ap shown_unasked is)))
-    by_kind (Basic user password) is = Gives-more Shown (subst (λ b. Gives I (answer shelf) (λ (o : Option RegistryTokenType). o ≡ None) (registry_asked s image b Pull)) is asked_nothing) (λ o none. inl none)
-    by_kind Anonymous is = Gives-more Shown (subst (λ b. Gives I (answer shelf) (λ (o : Option RegistryTokenType). o ≡ None) (registry_asked s image b Pull)) is asked_nothing) (λ o none. inl none)
+    by_kind : (b : RegistryAuth) → a ≡ b → AlwaysOk I (answer shelf) Shown (token_step s image b Pull)
+    by_kind (Bearer text) is = AlwaysOk-done (Ok (Some (shown.Bearer (Token text)))) (inr (sym (ap shown_unasked is)))
+    by_kind (Basic user password) is = AlwaysOk-more Shown (subst (λ b. AlwaysOk I (answer shelf) (λ (o : Option RegistryTokenType). o ≡ None) (registry_asked s image b Pull)) is asked_nothing) (λ o none. inl none)
+    by_kind Anonymous is = AlwaysOk-more Shown (subst (λ b. AlwaysOk I (answer shelf) (λ (o : Option RegistryTokenType). o ≡ None) (registry_asked s image b Pull)) is asked_nothing) (λ o none. inl none)
 
-  own_kept : (token : RegistryTokenType) → Some token ≡ shown_unasked a → Gives (λ k. Settled (resolved_registry image) (repository_of image) a k) (answer shelf) (λ (o : Option (List ℕ)). Unit {0}) (kept_text moment key (Some token))
-  unfolding Comes bind
+  own_kept : (token : RegistryTokenType) → Some token ≡ shown_unasked a → AlwaysOk (λ k. Settled (resolved_registry image) (repository_of image) a k) (answer shelf) (λ (o : Option (List ℕ)). Unit {0}) (kept_text moment key (Some token))
+  unfolding EvaluatesWith bind
   own_kept token own = record { gives = λ k h. (settled_kept (resolved_registry image) (repository_of image) a k token moment own h, tt) }
 
-  text_kept : (o : Option RegistryTokenType) → Shown o → Gives I (answer shelf) (λ (t : Option (List ℕ)). Unit {0}) (kept_text moment key o)
-  text_kept None h = Gives-done (Ok None) tt
+  text_kept : (o : Option RegistryTokenType) → Shown o → AlwaysOk I (answer shelf) (λ (t : Option (List ℕ)). Unit {0}) (kept_text moment key o)
+  text_kept None h = AlwaysOk-done (Ok None) tt
   text_kept (Some token) (inl none) = absurd (cc none)
   text_kept (Some token) (inr own) = spelled (own_kept token own)
 
-  pub given_gives : Gives I (answer shelf) (λ (t : Option (List ℕ)). Unit {0}) (token_given ctx image a Pull)
+  pub given_gives : AlwaysOk I (answer shelf) (λ (t : Option (List ℕ)). Unit {0}) (token_given ctx image a Pull)
   unfolding token_given
-  given_gives = Gives-next _ store_gives (λ u stored_is. Gives-next _ step_gives (λ o h. text_kept o h))
+  given_gives = AlwaysOk-next _ store_gives (λ u stored_is. AlwaysOk-next _ step_gives (λ o h. text_kept o h))

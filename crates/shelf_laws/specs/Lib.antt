@@ -1,3 +1,3 @@
-pub mod Comes
-pub mod Home
+pub mod EvaluatesWith
+pub mod IsHosted
 pub mod Shelves

@@ -19,7 +19,7 @@ use Rattle.engine_answers.specs.Referrers.{index_read, referrers_tag}
 use Rattle.engine_rows.specs.Image.{layer_of}
 
 -- each document, blob or list of referrers fits the limit of a body
-pub record IsShort (s : Settings) (shelf : Shelf) : Type 0 where
+pub record FitsLimit (s : Settings) (shelf : Shelf) : Type 0 where
   pub documents : (digest : List ℕ) (document : ShelfDocument) → map.get shelf.documents digest ≡ Some document
       → length document.content ≤ s.max_body_bytes
   pub blobs : (digest blob : List ℕ) → map.get shelf.blobs digest ≡ Some blob → length blob ≤ s.max_body_bytes

@@ -19,9 +19,9 @@ use Rattle.sig_answers.specs.Answers.{as_digest, as_manifest, as_image, as_refer
 use Rattle.sig_answers.specs.declared.answer.Answer.TheVariants.{Digest, Manifest, Image, Referrers}
 use Rattle.sig_answers.specs.declared.answer.Kind.TheVariants as kinds
 use Rattle.sig_settings.specs.Keys.{manifest_key, pull_key, referrers_key}
-use Rattle.sig_calls.specs.declared.wording.Called.{Called}
-use Rattle.sig_calls.specs.declared.wording.Called.TheVariants.{FetchManifest, Pull, PullManifest}
-use Rattle.sig_calls.specs.Wording.{worded}
+use Rattle.sig_calls.specs.declared.error_context.Called.{Called}
+use Rattle.sig_calls.specs.declared.error_context.Called.TheVariants.{FetchManifest, Pull, PullManifest}
+use Rattle.sig_calls.specs.ErrorContext.{with_error_context}
 use Rattle.sig_calls.specs.Caching.{Cache, cached}
 use Rattle.sig_calls.specs.Clients.{Plain, Row}
 
@@ -29,7 +29,7 @@ use Rattle.sig_calls.specs.Clients.{Plain, Row}
 
 -- a call of the engine with its errors converted
 unfoldable pub in_words : Called → Reference → {A : Type 0} → Engine A → Plain A
-in_words called image p = bind p (λ r. Done (worded called (whole_text image) r))
+in_words called image p = bind p (λ r. Done (with_error_context called (whole_text image) r))
 
 unfoldable pub digest_made : Context → Reference → RegistryAuth → Plain (List ℕ)
 digest_made s image a = in_words FetchManifest image (fetch_manifest_digest s image a)

@@ -1,7 +1,7 @@
 -- The state of a registry's client, whatever it caches.
 use Rattle.std.specs.Prelude.{◌≡◌, [], Bool, true, false, Option, Some, None, Result, IsErr, unwrap_or}
 use Rattle.oci_transport.specs.Link.{Link}
-use Rattle.oci_auth.specs.declared.memory.Memory.{Memory}
+use Rattle.oci_auth.specs.declared.auth_state.AuthState.{AuthState}
 use Rattle.oci_protocol.specs.Proto.{Proto}
 use Rattle.oci_protocol.specs.Runs.{Meets}
 use Rattle.engine_terms.specs.declared.settings.Settings.{Settings}
@@ -11,11 +11,11 @@ use Rattle.sig_calls.specs.declared.error.SigstoreError.{SigstoreError}
 
 -- what a client keeps between its calls: credentials and tokens, and cached responses if it caches
 abbrev pub Kept : Type 0
-Kept = Memory × Option Answers
+Kept = AuthState × Option Answers
 
 -- an uncached call
 abbrev pub Plain : Type 0 → Type 0
-Plain A = Proto Memory (Result A SigstoreError)
+Plain A = Proto AuthState (Result A SigstoreError)
 
 abbrev pub Row : Type 0 → Type 0
 Row A = Proto Kept (Result A SigstoreError)
@@ -38,7 +38,7 @@ abbrev pub now_caching : Client → Client
 now_caching c = record c { kept = (c.kept.0, Some (unwrap_or c.kept.1 (none_kept None))) }
 
 -- the call of a client with these settings meets this row, and the settings are unchanged
-pub record Fulfils {A E : Type 0} (of_memory : E → Bool) (s : Settings) (p : Proto Kept (Result A E))
+pub record ClientMeets {A E : Type 0} (of_memory : E → Bool) (s : Settings) (p : Proto Kept (Result A E))
     (c d : Client) (old new : Link) (r : Result A E) : Type 0 where
   pub made : c.settings ≡ s → (d.settings ≡ s) × Meets of_memory p old new c.kept d.kept r
 

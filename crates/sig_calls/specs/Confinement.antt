@@ -13,8 +13,8 @@ use Rattle.sig_calls.specs.Clients.{Client}
 -- If the requests are exposed, credentials and tokens were sent only to the image's registry and to the realm that it
 -- names. Each token that is kept afterwards was kept before, or the call may send it and it is kept under the image's
 -- repository.
-abbrev pub Stays : Client → Client → ℕ → Reference → Option RegistryAuth → Link → Link → Type 0
-Stays before after moment image handed old new =
+abbrev pub StaysConfined : Client → Client → ℕ → Reference → Option RegistryAuth → Link → Link → Type 0
+StaysConfined before after moment image handed old new =
     Told
     (Within (pulling before.kept.0 (within before.settings moment) image handed) before.settings after.kept.0)
     old new

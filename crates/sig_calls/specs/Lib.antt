@@ -6,4 +6,4 @@ pub mod Direct
 pub mod Error
 pub mod Log
 pub mod Named
-pub mod Wording
+pub mod ErrorContext

@@ -5,7 +5,7 @@ use Rattle.oci_transport.specs.Link.{Link, Extends}
 use Rattle.oci_names.specs.declared.reference.Reference.{Reference}
 use Rattle.oci_names.specs.Reference.{reads_back}
 use Rattle.oci_auth.specs.declared.auth.RegistryAuth.{RegistryAuth}
-use Rattle.oci_auth.specs.declared.memory.Memory.{Memory}
+use Rattle.oci_auth.specs.declared.auth_state.AuthState.{AuthState}
 use Rattle.oci_protocol.specs.Proto.{Done, bind}
 use Rattle.oci_protocol.specs.Runs.{Runs}
 use Rattle.engine_terms.specs.Contexts.{Context, within}
@@ -21,7 +21,7 @@ use Rattle.sig_calls.specs.Caching.{Cache, known}
 use Rattle.sig_calls.specs.Calls.{digests, manifests, images, referrers}
 use Rattle.sig_calls.specs.Calls.{digest_made, manifest_made, image_made, referrers_made}
 use Rattle.sig_calls.specs.Clients.{Client, Plain}
-use Rattle.sig_calls.specs.Error.{Says}
+use Rattle.sig_calls.specs.Error.{Matches}
 use Rattle.sig_calls.specs.declared.error.SigstoreError.{SigstoreError}
 
 -- a call whose response may be cached, with its arguments
@@ -55,7 +55,7 @@ pub record Recalled {A : Type 0} (cache : Cache A) (call : Call) (now : ℕ) (be
     (r : Result A SigstoreError) : Type 0 where
   pub recalled : (answer : A) → reads_back (image_called call) ≡ true
       → known cache (key_called call) now before.kept.1 ≡ Some answer
-      → Says r (Ok answer) × (new ≡ old) × (after ≡ before)
+      → Matches r (Ok answer) × (new ≡ old) × (after ≡ before)
 
 -- a result as it is cached
 abbrev pub answered : {A : Type 0} → Cache A → Result A SigstoreError → Result Answer SigstoreError
@@ -74,28 +74,28 @@ call_made s (ReferrersCall image a artifact_type) = answering referrers (referre
 
 -- One call of a client: its arguments and moment, the credentials and tokens before and after it, its exchanges, the
 -- transport's fault count before and after them, and the result.
-pub record Place : Type 0 where
+pub record LoggedCall : Type 0 where
   pub call : Call
   pub moment : ℕ
-  pub entry : Memory
-  pub exit : Memory
+  pub entry : AuthState
+  pub exit : AuthState
   pub before : ℕ
   pub conversation : List Exchange
   pub after : ℕ
   pub answer : Result Answer SigstoreError
 
 -- the call was made in full with these credentials and tokens at its moment, and returned this result
-unfoldable pub IsStep : Settings → Place → Type 0
+unfoldable pub IsStep : Settings → LoggedCall → Type 0
 IsStep s p =
     Runs (call_made (within s p.moment) p.call) p.entry p.before p.conversation p.after p.exit p.answer
 
 -- at least one entry has the property
-abbrev pub AnyOf : (Place → Type 0) → List Place → Type 0
+abbrev pub AnyOf : (LoggedCall → Type 0) → List LoggedCall → Type 0
 AnyOf P [] = ⊥
 AnyOf P (p ∷ log) = P p ⊎ AnyOf P log
 
 -- the same call was made in full, not after `now` and less than 60 seconds before it, and returned this response
-pub record IsSource (s : Settings) (call : Call) (now : ℕ) (answer : Answer) (p : Place) : Type 0 where
+pub record IsSource (s : Settings) (call : Call) (now : ℕ) (answer : Answer) (p : LoggedCall) : Type 0 where
   pub call_is : p.call ≡ call
   pub answer_is : p.answer ≡ Ok answer
   pub step : IsStep s p
@@ -103,16 +103,16 @@ pub record IsSource (s : Settings) (call : Call) (now : ℕ) (answer : Answer) (
   pub recent : now - p.moment < 60
 
 -- the response of this call comes from a call made in full: this one, or an earlier one
-abbrev pub HasSource : Settings → Place → List Place → Type 0
+abbrev pub HasSource : Settings → LoggedCall → List LoggedCall → Type 0
 HasSource s p log = (answer : Answer) → p.answer ≡ Ok answer → AnyOf (IsSource s p.call p.moment answer) (p ∷ log)
 
 -- This holds for each response of the log, the latest call first.
-abbrev pub IsRun : Settings → List Place → Type 0
+abbrev pub IsRun : Settings → List LoggedCall → Type 0
 IsRun s [] = Unit {0}
 IsRun s (p ∷ log) = HasSource s p log × IsRun s log
 
 -- the cache entry is the response of this call, which was made in full at the entry's moment
-pub record IsOrigin (s : Settings) (e : Entry) (p : Place) : Type 0 where
+pub record IsOrigin (s : Settings) (e : Entry) (p : LoggedCall) : Type 0 where
   pub kind_is : kind_called p.call ≡ kind_of e.answer
   pub key_is : key_called p.call ≡ e.key
   pub reads_back_is : reads_back (image_called p.call) ≡ true
@@ -121,16 +121,17 @@ pub record IsOrigin (s : Settings) (e : Entry) (p : Place) : Type 0 where
   pub step : IsStep s p
 
 -- each of these entries is the response of such a call
-abbrev pub EachBacked : Settings → List Entry → List Place → Type 0
+abbrev pub EachBacked : Settings → List Entry → List LoggedCall → Type 0
 EachBacked s [] log = Unit {0}
 EachBacked s (e ∷ es) log = AnyOf (IsOrigin s e) log × EachBacked s es log
 
-abbrev pub IsBacked : Settings → Option Answers → List Place → Type 0
+abbrev pub IsBacked : Settings → Option Answers → List LoggedCall → Type 0
 IsBacked s None log = Unit {0}
 IsBacked s (Some answers) log = EachBacked s answers.entries log
 
 -- this call of a client, as an entry of the log
-abbrev pub place_of : Call → ℕ → Client → Client → Link → List Exchange → Link → Result Answer SigstoreError → Place
+abbrev pub place_of : Call → ℕ → Client → Client → Link → List Exchange → Link → Result Answer SigstoreError
+    → LoggedCall
 place_of call now before after old c new answer = record {
   call = call;
   moment = now;
@@ -143,7 +144,7 @@ place_of call now before after old c new answer = record {
 }
 
 -- the log with this call is a run, and it backs what is cached now
-pub record IsLawful (s : Settings) (kept : Option Answers) (p : Place) (log : List Place) : Type 0 where
+pub record IsLawful (s : Settings) (kept : Option Answers) (p : LoggedCall) (log : List LoggedCall) : Type 0 where
   pub run : IsRun s (p ∷ log)
   pub backed : IsBacked s kept (p ∷ log)
 
@@ -151,6 +152,6 @@ pub record IsLawful (s : Settings) (kept : Option Answers) (p : Place) (log : Li
 -- with this call and its exchanges.
 pub record Logged {A : Type 0} (s : Settings) (cache : Cache A) (call : Call) (now : ℕ) (before after : Client)
     (old new : Link) (r : Result A SigstoreError) : Type 0 where
-  pub logged : before.settings ≡ s → (log : List Place) → IsRun s log → IsBacked s before.kept.1 log
+  pub logged : before.settings ≡ s → (log : List LoggedCall) → IsRun s log → IsBacked s before.kept.1 log
       → (c : List Exchange) × Extends old new c
       × IsLawful s after.kept.1 (place_of call now before after old c new (answered cache r)) log

@@ -7,8 +7,8 @@ ghost use Rattle.engine_requests.specs.Sources.{described};
 ghost use Rattle.sig_calls.specs.Calls.{digests, manifests, images, referrers};
 ghost use Rattle.sig_calls.specs.Calls.{digest_call, manifest_call, image_call, document_call, blob_call};
 ghost use Rattle.sig_calls.specs.Calls.{referrers_call};
-ghost use Rattle.sig_calls.specs.Clients.{Client, Fulfils, KeepsAnswers, RefusalKeeps};
-ghost use Rattle.sig_calls.specs.Confinement.{Stays, StaysWithTag};
+ghost use Rattle.sig_calls.specs.Clients.{Client, ClientMeets, KeepsAnswers, RefusalKeeps};
+ghost use Rattle.sig_calls.specs.Confinement.{StaysConfined, StaysWithTag};
 ghost use Rattle.sig_calls.specs.Error.{is_memory, FaultCounted, NoSinkFault};
 ghost use Rattle.sig_calls.specs.Log.{DigestCall, ManifestCall, ImageCall, ReferrersCall, Recalled, Logged};
 ghost use Rattle.sig_calls.specs.Named.{is_named};
@@ -39,11 +39,11 @@ pub trait ClientCapabilities {
         image: &Reference,
         auth: &RegistryAuth,
     ) -> Result<Text, SigstoreError>
-        ensures run { (s : Settings) → Fulfils is_memory s (digest_call (within s moment) image.now auth.now)
+        ensures run { (s : Settings) → ClientMeets is_memory s (digest_call (within s moment) image.now auth.now)
             (state self.old) (state self.new) (T.state transport.old) (T.state transport.new) result }
         ensures fault { FaultCounted (T.state transport.old) (T.state transport.new) result }
-        ensures no_sink { NoSinkFault result }
-        ensures confined { Stays (state self.old) (state self.new) moment image.now (Some auth.now)
+        ensures no_sink_fault { NoSinkFault result }
+        ensures confined { StaysConfined (state self.old) (state self.new) moment image.now (Some auth.now)
             (T.state transport.old) (T.state transport.new) }
         ensures refused { RefusalKeeps (state self.old) (state self.new) result }
         ensures recalled { Recalled digests (DigestCall image.now auth.now) moment
@@ -62,11 +62,11 @@ pub trait ClientCapabilities {
         accepted_media_types: &[Text],
     ) -> Result<ImageData, SigstoreError>
         ensures run { (s : Settings)
-            → Fulfils is_memory s (image_call (within s moment) image.now auth.now accepted_media_types.now)
+            → ClientMeets is_memory s (image_call (within s moment) image.now auth.now accepted_media_types.now)
             (state self.old) (state self.new) (T.state transport.old) (T.state transport.new) result }
         ensures fault { FaultCounted (T.state transport.old) (T.state transport.new) result }
-        ensures no_sink { NoSinkFault result }
-        ensures confined { Stays (state self.old) (state self.new) moment image.now (Some auth.now)
+        ensures no_sink_fault { NoSinkFault result }
+        ensures confined { StaysConfined (state self.old) (state self.new) moment image.now (Some auth.now)
             (T.state transport.old) (T.state transport.new) }
         ensures refused { RefusalKeeps (state self.old) (state self.new) result }
         ensures recalled { Recalled images (ImageCall image.now auth.now accepted_media_types.now) moment
@@ -84,11 +84,11 @@ pub trait ClientCapabilities {
         image: &Reference,
         auth: &RegistryAuth,
     ) -> Result<(OciManifest, Text), SigstoreError>
-        ensures run { (s : Settings) → Fulfils is_memory s (manifest_call (within s moment) image.now auth.now)
+        ensures run { (s : Settings) → ClientMeets is_memory s (manifest_call (within s moment) image.now auth.now)
             (state self.old) (state self.new) (T.state transport.old) (T.state transport.new) result }
         ensures fault { FaultCounted (T.state transport.old) (T.state transport.new) result }
-        ensures no_sink { NoSinkFault result }
-        ensures confined { Stays (state self.old) (state self.new) moment image.now (Some auth.now)
+        ensures no_sink_fault { NoSinkFault result }
+        ensures confined { StaysConfined (state self.old) (state self.new) moment image.now (Some auth.now)
             (T.state transport.old) (T.state transport.new) }
         ensures refused { RefusalKeeps (state self.old) (state self.new) result }
         ensures recalled { Recalled manifests (ManifestCall image.now auth.now) moment
@@ -108,11 +108,11 @@ pub trait ClientCapabilities {
         artifact_type: Option<&str>,
     ) -> Result<OciImageIndex, SigstoreError>
         ensures run { (s : Settings)
-            → Fulfils is_memory s
+            → ClientMeets is_memory s
             (referrers_call (within s moment) image.now auth.now (option_copied artifact_type.entry))
             (state self.old) (state self.new) (T.state transport.old) (T.state transport.new) result }
         ensures fault { FaultCounted (T.state transport.old) (T.state transport.new) result }
-        ensures no_sink { NoSinkFault result }
+        ensures no_sink_fault { NoSinkFault result }
         ensures confined { StaysWithTag (state self.old) (state self.new) moment image.now (Some auth.now)
             (T.state transport.old) (T.state transport.new) }
         ensures refused { RefusalKeeps (state self.old) (state self.new) result }
@@ -134,11 +134,12 @@ pub trait ClientCapabilities {
         accepted_media_types: &[Text],
     ) -> Result<(Blob, Text), SigstoreError>
         ensures run { (s : Settings)
-            → Fulfils is_memory s (document_call (within s moment) image.now auth.now (listed accepted_media_types.now))
+            → ClientMeets is_memory s
+            (document_call (within s moment) image.now auth.now (listed accepted_media_types.now))
             (state self.old) (state self.new) (T.state transport.old) (T.state transport.new) result }
         ensures fault { FaultCounted (T.state transport.old) (T.state transport.new) result }
-        ensures no_sink { NoSinkFault result }
-        ensures confined { Stays (state self.old) (state self.new) moment image.now (Some auth.now)
+        ensures no_sink_fault { NoSinkFault result }
+        ensures confined { StaysConfined (state self.old) (state self.new) moment image.now (Some auth.now)
             (T.state transport.old) (T.state transport.new) }
         ensures answers { KeepsAnswers (state self.old) (state self.new) };
 
@@ -151,11 +152,12 @@ pub trait ClientCapabilities {
         image: &Reference,
         layer: &OciDescriptor,
     ) -> Result<Blob, SigstoreError>
-        ensures run { (s : Settings) → Fulfils is_memory s (blob_call (within s moment) image.now (described layer.now))
+        ensures run { (s : Settings)
+            → ClientMeets is_memory s (blob_call (within s moment) image.now (described layer.now))
             (state self.old) (state self.new) (T.state transport.old) (T.state transport.new) result }
         ensures fault { FaultCounted (T.state transport.old) (T.state transport.new) result }
-        ensures no_sink { NoSinkFault result }
-        ensures confined { Stays (state self.old) (state self.new) moment image.now None
+        ensures no_sink_fault { NoSinkFault result }
+        ensures confined { StaysConfined (state self.old) (state self.new) moment image.now None
             (T.state transport.old) (T.state transport.new) }
         ensures answers { KeepsAnswers (state self.old) (state self.new) };
 

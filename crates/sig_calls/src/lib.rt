@@ -3,10 +3,10 @@
 
 mod capabilities;
 mod error;
+mod error_context;
 mod reference;
-mod wording;
 
 pub use capabilities::ClientCapabilities;
 pub use error::SigstoreError;
+pub use error_context::{Called, with_error_context};
 pub use reference::OciReference;
-pub use wording::{Called, worded};

@@ -1,7 +1,7 @@
 //! Private keys encrypted under passwords.
 ghost use Rattle.std.specs.Prelude.{◌≡◌, IfOk, Some, Ok};
 ghost use Rattle.json_tables.specs.Plain.{read_plain};
-ghost use Rattle.json_values.specs.Refusals.{Says};
+ghost use Rattle.json_values.specs.Refusals.{Matches};
 ghost use Rattle.sig_envelope.specs.Decrypt.{checked, decrypted, plain_of};
 ghost use Rattle.sig_envelope.specs.Encrypt.{encrypted, OpensWhatItSeals};
 ghost use Rattle.sig_envelope.specs.Envelope.{envelope_of, envelope_text, envelope_with};
@@ -59,7 +59,7 @@ pub fn decrypt<B: KeyBox>(
     password: &[u8],
     keybox: &B,
 ) -> Result<Blob, KdfError>
-    ensures { Says is_memory result
+    ensures { Matches is_memory result
         (decrypted (B.derived keybox.now) (B.opened keybox.now) ciphertext.now password.now) }
 {
     let Some(envelope) = read_plain::<Envelope>(alloc, ciphertext)? else {
@@ -80,7 +80,7 @@ fn refused(cause: DecryptCause) -> KdfError
 
 // Checks that the envelope has a form that cosign writes.
 fn check(alloc: Global, envelope: &Envelope) -> Result<(), KdfError>
-    ensures { Says is_memory result (checked envelope.now) }
+    ensures { Matches is_memory result (checked envelope.now) }
 {
     let cipher = envelope.cipher.name.as_str();
     if cipher != NAME_SECRET_BOX {

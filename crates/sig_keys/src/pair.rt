@@ -1,6 +1,6 @@
 //! Keys of any kind.
 ghost use Rattle.std.specs.Prelude.{◌≡◌, IfOk};
-ghost use Rattle.json_values.specs.Refusals.{Says};
+ghost use Rattle.json_values.specs.Refusals.{Matches};
 ghost use Rattle.sig_schemes.specs.Outcomes.{Parses};
 ghost use Rattle.sig_schemes.specs.Error.{is_memory};
 ghost use Rattle.sig_keys.specs.Pair.{pair_read, pair_kind, pair_public, pair_private, pair_scheme, signer_under};
@@ -61,7 +61,7 @@ impl SigStoreKeyPair {
         alloc: Global,
         scheme: SigningScheme,
     ) -> Result<SigStoreSigner, KeyError>
-        ensures { Says is_memory result (signer_under self.now scheme) }
+        ensures { Matches is_memory result (signer_under self.now scheme) }
     {
         let key = self.kind();
         if !scheme.fits(key) {

@@ -1,4 +1,4 @@
-ghost use Rattle.json_tables.specs.Outcomes.{Gives};
+ghost use Rattle.json_tables.specs.Outcomes.{ReadsTo};
 ghost use Rattle.json_tables.specs.Plain.{read_plain};
 ghost use Rattle.sig_models.specs.Sct.{inner_sct_of};
 
@@ -48,7 +48,7 @@ impl Reads for CertificateChain {
 }
 
 fn inner_sct(alloc: Global, bytes: &Blob) -> Result<InnerDetachedSCT, ReadError>
-    ensures { Gives result (read_plain inner_sct_of bytes.now) }
+    ensures { ReadsTo result (read_plain inner_sct_of bytes.now) }
 {
     match read_plain(alloc, bytes.as_slice())? {
         Some(sct) => Ok(sct),

@@ -1,5 +1,5 @@
 ghost use Rattle.std.specs.Prelude.{◌≡◌, IfOk, IsErrOf, Ok, Err};
-ghost use Rattle.json_tables.specs.Outcomes.{Gives};
+ghost use Rattle.json_tables.specs.Outcomes.{ReadsTo};
 ghost use Rattle.sig_models.specs.Sct.{sct_signature, log_id_of, signature_of};
 ghost use Rattle.sig_models.specs.declared.sct.SctError.TheVariants as why;
 
@@ -64,7 +64,7 @@ pub fn read_sct_signature(bytes: &[u8]) -> Result<&[u8], SctError>
 }
 
 fn log_id(bytes: Blob) -> Result<Blob, ReadError>
-    ensures { Gives result (log_id_of bytes) }
+    ensures { ReadsTo result (log_id_of bytes) }
 {
     if bytes.as_slice().len() == 32 {
         return Ok(bytes);
@@ -73,7 +73,7 @@ fn log_id(bytes: Blob) -> Result<Blob, ReadError>
 }
 
 fn signature(alloc: Global, bytes: &Blob) -> Result<Blob, ReadError>
-    ensures { Gives result (signature_of bytes.now) }
+    ensures { ReadsTo result (signature_of bytes.now) }
 {
     match read_sct_signature(bytes.as_slice()) {
         Ok(signature) => {

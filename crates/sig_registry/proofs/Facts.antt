@@ -7,7 +7,7 @@ use Rattle.oci_transport.specs.Link.{Link}
 use Rattle.oci_names.specs.declared.reference.Reference.{Reference}
 use Rattle.oci_names.specs.Reference.{reads_back}
 use Rattle.oci_auth.specs.declared.auth.RegistryAuth.{RegistryAuth}
-use Rattle.oci_auth.specs.declared.memory.Memory.{Memory as Memories}
+use Rattle.oci_auth.specs.declared.auth_state.AuthState.{AuthState as Memories}
 use Rattle.oci_manifests.specs.declared.document.OciManifest.{OciManifest}
 use Rattle.oci_manifests.specs.declared.index.OciImageIndex.{OciImageIndex}
 use Rattle.oci_protocol.specs.Lift.{lifted}
@@ -28,8 +28,8 @@ use Rattle.sig_answers.specs.declared.answer.Answer.TheVariants.{Digest, Manifes
 use Rattle.sig_answers.specs.declared.answers.Answers.{Answers}
 use Rattle.sig_calls.specs.declared.error.SigstoreError.{SigstoreError}
 use Rattle.sig_calls.specs.declared.error.SigstoreError.TheVariants as refusal
-use Rattle.sig_calls.specs.Error.{is_memory, Says, registry_refusal, IsRefusedBy}
-use Rattle.sig_calls.specs.Clients.{Kept, Plain, Client, Fulfils, RefusalKeeps}
+use Rattle.sig_calls.specs.Error.{is_memory, Matches, registry_refusal, IsRefusedBy}
+use Rattle.sig_calls.specs.Clients.{Kept, Plain, Client, ClientMeets, RefusalKeeps}
 use Rattle.sig_registry.specs.States.{engine_state, PlainlyMade}
 use Rattle.sig_calls.specs.Caching.{Cache, known, cached, key_if}
 use Rattle.sig_calls.specs.Calls.{digests, manifests, images, referrers}
@@ -78,12 +78,12 @@ key_missing false key is = refl
 abbrev Memory : {A : Type 0} → Result A SigstoreError → Type 0
 Memory r = IsErrAnd r (λ e. e ≡ refusal.WantOfMemory)
 
-memory_says : {A : Type 0} (r said : Result A SigstoreError) → Memory r → Says r said
-memory_says {A} r said is = let at = err_from_is_err_and r is in let whole : r ≡ Err refusal.WantOfMemory = at.1 ∙ ap Err at.2 in subst (λ (x : Result A SigstoreError). Says x said) (sym whole) tt
+memory_says : {A : Type 0} (r said : Result A SigstoreError) → Memory r → Matches r said
+memory_says {A} r said is = let at = err_from_is_err_and r is in let whole : r ≡ Err refusal.WantOfMemory = at.1 ∙ ap Err at.2 in subst (λ (x : Result A SigstoreError). Matches x said) (sym whole) tt
 
 -- the clauses of a call, except for the causes of its faults and its confinement
 pub record Facts {A : Type 0} (cache : Cache A) (call : Call) (now : ℕ) (row : Settings → Plain A) (c d : Client) (old new : Link) (r : Result A SigstoreError) : Type 0 where
-  pub run : (s : Settings) → Fulfils is_memory s (cached (reads_back (image_called call)) cache (key_called call) now (row s)) c d old new r
+  pub run : (s : Settings) → ClientMeets is_memory s (cached (reads_back (image_called call)) cache (key_called call) now (row s)) c d old new r
   pub refused : RefusalKeeps c d r
   pub recalled : Recalled cache call now c d old new r
   pub logged : (s : Settings) → Logged s cache call now c d old new r
@@ -92,7 +92,7 @@ module _ {A : Type 0} (cache : Cache A) (law : IsCache cache) (call : Call) (now
   abbrev Of : Client → Client → Link → Link → Result A SigstoreError → Type 0
   Of c d old new r = Facts cache call now row c d old new r
 
-  facts : {c d : Client} {old new : Link} {r : Result A SigstoreError} → ((s : Settings) → Fulfils is_memory s (cached (reads_back (image_called call)) cache (key_called call) now (row s)) c d old new r) → RefusalKeeps c d r → Recalled cache call now c d old new r → Of c d old new r
+  facts : {c d : Client} {old new : Link} {r : Result A SigstoreError} → ((s : Settings) → ClientMeets is_memory s (cached (reads_back (image_called call)) cache (key_called call) now (row s)) c d old new r) → RefusalKeeps c d r → Recalled cache call now c d old new r → Of c d old new r
   facts run refused recalled = record { run = run; refused = refused; recalled = recalled; logged = λ s. logged_call cache law call now row kind_is is_call s (run s) refused }
 
   -- if no response is known, none is returned again
@@ -116,7 +116,7 @@ module _ {A : Type 0} (cache : Cache A) (law : IsCache cache) (call : Call) (now
         (λ s. record { made = λ at. (at, kept.reads cache (key_called call) now (row s) (reads_back (image_called call)) read_back (kept.recall cache (key_called call) now (row s) a (at_key x is))) })
         (λ h. absurd (cc h))
         (record { recalled = λ answer reads found. (at_answer answer found, refl, refl) }) where
-          at_answer : (answer : A) → known cache (key_called call) now x ≡ Some answer → Says (Ok a) (Ok answer)
+          at_answer : (answer : A) → known cache (key_called call) now x ≡ Some answer → Matches (Ok a) (Ok answer)
           at_answer answer found = let same : Some a ≡ Some answer = sym (at_key x is) ∙ found in cc same
 
     -- the uncached call was refused, or was cut short
@@ -156,7 +156,7 @@ module _ {A : Type 0} (cache : Cache A) (law : IsCache cache) (call : Call) (now
       (unknown refl)
 
 -- a call that is never cached
-pub never_kept : {A : Type 0} {x : Option Answers} {s : Settings} {p : Plain A} {e f : Engine} {old new : Link} {r : Result A SigstoreError} → PlainlyMade s p e f old new r → Fulfils is_memory s (lifted p) (engine_state e x) (engine_state f x) old new r
+pub never_kept : {A : Type 0} {x : Option Answers} {s : Settings} {p : Plain A} {e f : Engine} {old new : Link} {r : Result A SigstoreError} → PlainlyMade s p e f old new r → ClientMeets is_memory s (lifted p) (engine_state e x) (engine_state f x) old new r
 never_kept {x = x} plain = record { made = λ same. let made = plain.made same in (made.0, Meets-lifted x made.1) }
 
 -- ---- faults

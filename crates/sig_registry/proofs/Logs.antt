@@ -9,10 +9,10 @@ use Rattle.oci_transport.specs.Link.{Link, Extends}
 use Rattle.oci_names.specs.declared.reference.Reference.{Reference}
 use Rattle.oci_names.specs.Reference.{reads_back, reference_of, whole_text}
 use Rattle.oci_names.proofs.ReadsBack.{reads_back-means}
-use Rattle.oci_auth.specs.declared.memory.Memory.{Memory}
+use Rattle.oci_auth.specs.declared.auth_state.AuthState.{AuthState}
 use Rattle.oci_protocol.specs.Proto.{Proto, Done, bind, unless_refused, ◌>>=◌, ◌>>◌}
 use Rattle.oci_protocol.specs.Lift.{lifted}
-use Rattle.oci_protocol.specs.Runs.{Runs, Performs, Breaks, Outcome, Meets}
+use Rattle.oci_protocol.specs.Runs.{Runs, Performs, PerformsPrefix, Outcome, Meets}
 use Rattle.oci_protocol.proofs.Laws.{Runs-bind}
 use Rattle.oci_protocol.proofs.WiderMemory.{Runs-unlifted}
 use Rattle.oci_protocol.proofs.Parts.{Parts, Runs-parts}
@@ -28,9 +28,9 @@ use Rattle.sig_answers.specs.declared.answers.Bounds.{Bounds}
 use Rattle.sig_answers.specs.declared.answers.Entry.{Entry}
 use Rattle.sig_calls.specs.declared.error.SigstoreError.{SigstoreError}
 use Rattle.sig_calls.specs.Error.{is_memory}
-use Rattle.sig_calls.specs.Clients.{Kept, Plain, Row, Client, Fulfils, RefusalKeeps}
+use Rattle.sig_calls.specs.Clients.{Kept, Plain, Row, Client, ClientMeets, RefusalKeeps}
 use Rattle.sig_calls.specs.Caching.{Cache, known, keeping, known_or, recalled, cached}
-use Rattle.sig_calls.specs.Log.{Call, DigestCall, ManifestCall, ImageCall, ReferrersCall, image_called, kind_called, key_called, answered, answering, call_made, Place, IsStep, AnyOf, IsOrigin, IsSource, HasSource, IsRun, EachBacked, IsBacked, place_of, IsLawful, Logged}
+use Rattle.sig_calls.specs.Log.{Call, DigestCall, ManifestCall, ImageCall, ReferrersCall, image_called, kind_called, key_called, answered, answering, call_made, LoggedCall, IsStep, AnyOf, IsOrigin, IsSource, HasSource, IsRun, EachBacked, IsBacked, place_of, IsLawful, Logged}
 
 -- ---- cached responses
 
@@ -59,10 +59,10 @@ fresh_ages : (now since : ℕ) → is_fresh now since ≡ true → (since ≤ no
 fresh_ages now since h = let both = both_true (nat_le since now) (nat_lt (now - since) 60) h in (leb-true since now both.0, ltb-true (now - since) 60 both.1)
 
 -- an entry of this kind and key, with the call that backs it
-abbrev Backs : Settings → Kind → List ℕ → Entry → List Place → Type 0
+abbrev Backs : Settings → Kind → List ℕ → Entry → List LoggedCall → Type 0
 Backs s kind key e log = (kind_of e.answer ≡ kind) × (e.key ≡ key) × AnyOf (IsOrigin s e) log
 
-found_backed : (s : Settings) (kind : Kind) (key : List ℕ) (es : List Entry) (e : Entry) (log : List Place) → find (is_of kind key) es ≡ Some e → EachBacked s es log → Backs s kind key e log
+found_backed : (s : Settings) (kind : Kind) (key : List ℕ) (es : List Entry) (e : Entry) (log : List LoggedCall) → find (is_of kind key) es ≡ Some e → EachBacked s es log → Backs s kind key e log
 found_backed s kind key [] e log is h = absurd (cc is)
 found_backed s kind key (x ∷ es) e log is h = by_test (is_of kind key x) refl is (λ later. found_backed s kind key es e log later h.1) where
   by_test : (b : Bool) → is_of kind key x ≡ b → cond b (Some x) (find (is_of kind key) es) ≡ Some e → (find (is_of kind key) es ≡ Some e → Backs s kind key e log) → Backs s kind key e log
@@ -83,7 +83,7 @@ same_call (ReferrersCall a x t) (ReferrersCall b y u) kind key first second = le
 same_call _ _ kind key first second = absurd (cc kind)
 
 -- a fresh origin is a source of the same call
-sources : (s : Settings) (call : Call) (now : ℕ) (e : Entry) (answer : Answer) (log : List Place) → reads_back (image_called call) ≡ true → kind_of e.answer ≡ kind_called call → e.key ≡ key_called call → e.answer ≡ answer → e.moment ≤ now → now - e.moment < 60 → AnyOf (IsOrigin s e) log → AnyOf (IsSource s call now answer) log
+sources : (s : Settings) (call : Call) (now : ℕ) (e : Entry) (answer : Answer) (log : List LoggedCall) → reads_back (image_called call) ≡ true → kind_of e.answer ≡ kind_called call → e.key ≡ key_called call → e.answer ≡ answer → e.moment ≤ now → now - e.moment < 60 → AnyOf (IsOrigin s e) log → AnyOf (IsSource s call now answer) log
 sources s call now e answer [] reads kind key same early recent h = absurd h
 sources s call now e answer (p ∷ log) reads kind key same early recent (inl h) = inl (record {
   call_is = same_call p.call call (h.kind_is ∙ kind) (h.key_is ∙ key) h.reads_back_is reads;
@@ -100,26 +100,26 @@ pub record IsCache {A : Type 0} (cache : Cache A) : Type 0 where
   pub reads : (x : Answer) (a : A) → cache.read x ≡ Some a → x ≡ cache.kept_as a
 
 -- a longer log has what a shorter log has
-each_more : (s : Settings) (es : List Entry) (p : Place) (log : List Place) → EachBacked s es log → EachBacked s es (p ∷ log)
+each_more : (s : Settings) (es : List Entry) (p : LoggedCall) (log : List LoggedCall) → EachBacked s es log → EachBacked s es (p ∷ log)
 each_more s [] p log h = tt
 each_more s (e ∷ es) p log h = (inr h.0, each_more s es p log h.1)
 
-backed_more : (s : Settings) (k : Option Answers) (p : Place) (log : List Place) → IsBacked s k log → IsBacked s k (p ∷ log)
+backed_more : (s : Settings) (k : Option Answers) (p : LoggedCall) (log : List LoggedCall) → IsBacked s k log → IsBacked s k (p ∷ log)
 backed_more s None p log h = tt
 backed_more s (Some answers) p log h = each_more s answers.entries p log h
 
-each_filtered : (s : Settings) (test : Entry → Bool) (es : List Entry) (log : List Place) → EachBacked s es log → EachBacked s (filter test es) log
+each_filtered : (s : Settings) (test : Entry → Bool) (es : List Entry) (log : List LoggedCall) → EachBacked s es log → EachBacked s (filter test es) log
 each_filtered s test [] log h = tt
 each_filtered s test (e ∷ es) log h = by_test (test e) (each_filtered s test es log h.1) where
   by_test : (b : Bool) → EachBacked s (filter test es) log → EachBacked s (cond b (e ∷ filter test es) (filter test es)) log
   by_test true rest = (h.0, rest)
   by_test false rest = rest
 
-each_joined : (s : Settings) (es : List Entry) (e : Entry) (log : List Place) → EachBacked s es log → AnyOf (IsOrigin s e) log → EachBacked s (es ++ e ∷ []) log
+each_joined : (s : Settings) (es : List Entry) (e : Entry) (log : List LoggedCall) → EachBacked s es log → AnyOf (IsOrigin s e) log → EachBacked s (es ++ e ∷ []) log
 each_joined s [] e log h one = (one, tt)
 each_joined s (x ∷ es) e log h one = (h.0, each_joined s es e log h.1 one)
 
-each_within : (s : Settings) (bounds : Option Bounds) (es : List Entry) (log : List Place) → EachBacked s es log → EachBacked s (within_bounds bounds es) log
+each_within : (s : Settings) (bounds : Option Bounds) (es : List Entry) (log : List LoggedCall) → EachBacked s es log → EachBacked s (within_bounds bounds es) log
 each_within s bounds [] log h = tt
 each_within s bounds (e ∷ es) log h = by_test (fits bounds (e ∷ es)) (each_within s bounds es log h.1) where
   by_test : (b : Bool) → EachBacked s (within_bounds bounds es) log → EachBacked s (if b then e ∷ es else within_bounds bounds es) log
@@ -128,7 +128,7 @@ each_within s bounds (e ∷ es) log h = by_test (fits bounds (e ∷ es)) (each_w
 
 module _ {A : Type 0} (s : Settings) (cache : Cache A) (law : IsCache cache) (call : Call) (now : ℕ) (kind_is : kind_called call ≡ cache.kind) (reads : reads_back (image_called call) ≡ true) where
   -- a known response has a source
-  known_source : (k : Option Answers) (log : List Place) (a : A) → known cache (key_called call) now k ≡ Some a → IsBacked s k log → AnyOf (IsSource s call now (cache.kept_as a)) log
+  known_source : (k : Option Answers) (log : List LoggedCall) (a : A) → known cache (key_called call) now k ≡ Some a → IsBacked s k log → AnyOf (IsSource s call now (cache.kept_as a)) log
   known_source None log a is h = absurd (cc is)
   known_source (Some answers) log a is h = by_find (find (is_of cache.kind (key_called call)) answers.entries) refl is where
     by_age : (e : Entry) (b : Bool) → is_fresh now e.moment ≡ b → Backs s cache.kind (key_called call) e log → option_and_then cache.read (if b then Some e.answer else None) ≡ Some a → AnyOf (IsSource s call now (cache.kept_as a)) log
@@ -140,7 +140,7 @@ module _ {A : Type 0} (s : Settings) (cache : Cache A) (law : IsCache cache) (ca
     by_find (Some e) at is = by_age e (is_fresh now e.moment) refl (found_backed s cache.kind (key_called call) answers.entries e log at h) is
 
   -- the cached response is backed by its call
-  kept_backed : (k : Option Answers) (log : List Place) (a : A) (p : Place) → IsOrigin s (entry (key_called call) now (cache.kept_as a)) p → IsBacked s k log → IsBacked s (option_map (keep (entry (key_called call) now (cache.kept_as a))) k) (p ∷ log)
+  kept_backed : (k : Option Answers) (log : List LoggedCall) (a : A) (p : LoggedCall) → IsOrigin s (entry (key_called call) now (cache.kept_as a)) p → IsBacked s k log → IsBacked s (option_map (keep (entry (key_called call) now (cache.kept_as a))) k) (p ∷ log)
   kept_backed None log a p origin h = tt
   kept_backed (Some answers) log a p origin h =
       let e : Entry = entry (key_called call) now (cache.kept_as a) in
@@ -205,14 +205,14 @@ module _ {A : Type 0} (cache : Cache A) (key : List ℕ) (now : ℕ) (p : Plain 
     by_answer (Err e) first second = join_err k parts.between l m parts.count n parts.first parts.second c e r first parts.joined (done_run (Err e) parts.between parts.count parts.second n l r second)
 
 -- an uncached run is a run with its result as it is cached
-run_answering : {A : Type 0} (cache : Cache A) (p : Plain A) (k l : Memory) (m n : ℕ) (c : List Exchange) (r : Result A SigstoreError) → Runs p k m c n l r → Runs (answering cache p) k m c n l (answered cache r)
+run_answering : {A : Type 0} (cache : Cache A) (p : Plain A) (k l : AuthState) (m n : ℕ) (c : List Exchange) (r : Result A SigstoreError) → Runs p k m c n l r → Runs (answering cache p) k m c n l (answered cache r)
 unfolding Runs
 run_answering cache p k l m n c r run = let both = Runs-bind p (λ x. Done (answered cache x)) k l l m n n c [] r (answered cache r) run (refl, refl, refl) in rw append-nil at both
 
 -- ---- the law
 
 module _ {A : Type 0} (cache : Cache A) (law : IsCache cache) (call : Call) (now : ℕ) (row : Settings → Plain A) (kind_is : kind_called call ≡ cache.kind) (is_call : (s : Settings) → call_made (within s now) call ≡ answering cache (row s)) (s : Settings) where
-  abbrev place : Kept → Kept → ℕ → List Exchange → ℕ → Result A SigstoreError → Place
+  abbrev place : Kept → Kept → ℕ → List Exchange → ℕ → Result A SigstoreError → LoggedCall
   place k l m c n r = record { call = call; moment = now; entry = k.0; exit = l.0; before = m; conversation = c; after = n; answer = answered cache r }
 
   made_in_full : (k l : Kept) (m n : ℕ) (c : List Exchange) (r : Result A SigstoreError) → Runs (row s) k.0 m c n l.0 r → IsStep s (place k l m c n r)
@@ -220,28 +220,28 @@ module _ {A : Type 0} (cache : Cache A) (law : IsCache cache) (call : Call) (now
   made_in_full k l m n c r run = rw (is_call s) (run_answering cache (row s) k.0 l.0 m n c r run)
 
   -- a call made in full is its own source
-  ok_lawful : (k l : Kept) (m n : ℕ) (c : List Exchange) (a : A) (r : Result A SigstoreError) (log : List Place) → r ≡ Ok a → Runs (row s) k.0 m c n l.0 r → IsRun s log → IsBacked s l.1 (place k l m c n r ∷ log) → IsLawful s l.1 (place k l m c n r) log
+  ok_lawful : (k l : Kept) (m n : ℕ) (c : List Exchange) (a : A) (r : Result A SigstoreError) (log : List LoggedCall) → r ≡ Ok a → Runs (row s) k.0 m c n l.0 r → IsRun s log → IsBacked s l.1 (place k l m c n r ∷ log) → IsLawful s l.1 (place k l m c n r) log
   ok_lawful k l m n c a r log is run lawful backed = record {
     run = (λ answer got. inl (record { call_is = refl; answer_is = got; step = made_in_full k l m n c r run; early = omega arith; recent = omega arith }), lawful);
     backed = backed;
   }
 
   -- a call that was refused or cut short changes nothing
-  pub err_lawful : (k l : Kept) (m n : ℕ) (c : List Exchange) (e : SigstoreError) (r : Result A SigstoreError) (log : List Place) → r ≡ Err e → l.1 ≡ k.1 → IsRun s log → IsBacked s k.1 log → IsLawful s l.1 (place k l m c n r) log
+  pub err_lawful : (k l : Kept) (m n : ℕ) (c : List Exchange) (e : SigstoreError) (r : Result A SigstoreError) (log : List LoggedCall) → r ≡ Err e → l.1 ≡ k.1 → IsRun s log → IsBacked s k.1 log → IsLawful s l.1 (place k l m c n r) log
   err_lawful k l m n c e r log is same lawful backed = record {
     run = (λ answer got. absurd (cc (ap (answered cache) is, got)), lawful);
     backed = subst (λ (x : Option Answers). IsBacked s x (place k l m c n r ∷ log)) (sym same) (backed_more s k.1 (place k l m c n r) log backed);
   }
 
   -- a call that is not cached
-  lifted_lawful : (k l : Kept) (m n : ℕ) (c : List Exchange) (r : Result A SigstoreError) (log : List Place) → Runs (lifted (row s)) k m c n l r → IsRun s log → IsBacked s k.1 log → IsLawful s l.1 (place k l m c n r) log
+  lifted_lawful : (k l : Kept) (m n : ℕ) (c : List Exchange) (r : Result A SigstoreError) (log : List LoggedCall) → Runs (lifted (row s)) k m c n l r → IsRun s log → IsBacked s k.1 log → IsLawful s l.1 (place k l m c n r) log
   lifted_lawful k l m n c r log run lawful backed = by_result r refl (Runs-unlifted (row s) k l m n c r run) where
     by_result : (x : Result A SigstoreError) → r ≡ x → Runs (row s) k.0 m c n l.0 r × (k.1 ≡ l.1) → IsLawful s l.1 (place k l m c n r) log
     by_result (Ok a) is h = ok_lawful k l m n c a r log is h.0 lawful (subst (λ (x : Option Answers). IsBacked s x (place k l m c n r ∷ log)) h.1 (backed_more s k.1 (place k l m c n r) log backed))
     by_result (Err e) is h = err_lawful k l m n c e r log is (sym h.1) lawful backed
 
   -- a call whose response is cached
-  recalled_lawful : reads_back (image_called call) ≡ true → (k l : Kept) (m n : ℕ) (c : List Exchange) (r : Result A SigstoreError) (log : List Place) → Runs (recalled cache (key_called call) now (row s)) k m c n l r → IsRun s log → IsBacked s k.1 log → IsLawful s l.1 (place k l m c n r) log
+  recalled_lawful : reads_back (image_called call) ≡ true → (k l : Kept) (m n : ℕ) (c : List Exchange) (r : Result A SigstoreError) (log : List LoggedCall) → Runs (recalled cache (key_called call) now (row s)) k m c n l r → IsRun s log → IsBacked s k.1 log → IsLawful s l.1 (place k l m c n r) log
   unfolding recalled Runs keeps
   recalled_lawful reads k l m n c r log run lawful backed = by_known (known cache (key_called call) now k.1) refl run where
     answered_before : (a : A) → known cache (key_called call) now k.1 ≡ Some a → (c ≡ []) × (m ≡ n) × (k ≡ l) × (Ok a ≡ r) → IsLawful s l.1 (place k l m c n r) log
@@ -264,23 +264,23 @@ module _ {A : Type 0} (cache : Cache A) (law : IsCache cache) (call : Call) (now
     by_known (Some a) is run = answered_before a is (done_run (Ok a) k m c n l r run)
     by_known None is run = by_result r refl (afresh cache (key_called call) now (row s) k l m n c r run)
 
-  cached_lawful : (b : Bool) → reads_back (image_called call) ≡ b → (k l : Kept) (m n : ℕ) (c : List Exchange) (r : Result A SigstoreError) (log : List Place) → Runs (cached b cache (key_called call) now (row s)) k m c n l r → IsRun s log → IsBacked s k.1 log → IsLawful s l.1 (place k l m c n r) log
+  cached_lawful : (b : Bool) → reads_back (image_called call) ≡ b → (k l : Kept) (m n : ℕ) (c : List Exchange) (r : Result A SigstoreError) (log : List LoggedCall) → Runs (cached b cache (key_called call) now (row s)) k m c n l r → IsRun s log → IsBacked s k.1 log → IsLawful s l.1 (place k l m c n r) log
   cached_lawful true reads k l m n c r log run = recalled_lawful reads k l m n c r log run
   cached_lawful false reads k l m n c r log run = lifted_lawful k l m n c r log run
 
   -- the log with any call of a client, whatever its result
-  pub logged : {c d : Client} {old new : Link} {r : Result A SigstoreError} → Fulfils is_memory s (cached (reads_back (image_called call)) cache (key_called call) now (row s)) c d old new r → RefusalKeeps c d r → Logged s cache call now c d old new r
+  pub logged : {c d : Client} {old new : Link} {r : Result A SigstoreError} → ClientMeets is_memory s (cached (reads_back (image_called call)) cache (key_called call) now (row s)) c d old new r → RefusalKeeps c d r → Logged s cache call now c d old new r
   logged {c} {d} {old} {new} {r} made refused = record { logged = λ at log run backed. by_result r refl refused ((made.made at).1).outcome log run backed } where
-    End : List Place → Type 0
+    End : List LoggedCall → Type 0
     End log = (conversation : List Exchange) × Extends old new conversation × IsLawful s d.kept.1 (place_of call now c d old conversation new (answered cache r)) log
 
-    performed : Performs (cached (reads_back (image_called call)) cache (key_called call) now (row s)) old new c.kept d.kept r → (log : List Place) → IsRun s log → IsBacked s c.kept.1 log → End log
+    performed : Performs (cached (reads_back (image_called call)) cache (key_called call) now (row s)) old new c.kept d.kept r → (log : List LoggedCall) → IsRun s log → IsBacked s c.kept.1 log → End log
     performed h log run backed = (h.conversation, h.told, cached_lawful (reads_back (image_called call)) refl c.kept d.kept old.faults new.faults h.conversation r log h.runs run backed)
 
-    by_memory : (x : Bool) (e : SigstoreError) → r ≡ Err e → d.kept.1 ≡ c.kept.1 → MatchBool x (Breaks (cached (reads_back (image_called call)) cache (key_called call) now (row s)) old new c.kept d.kept) (Performs (cached (reads_back (image_called call)) cache (key_called call) now (row s)) old new c.kept d.kept (Err e)) → (log : List Place) → IsRun s log → IsBacked s c.kept.1 log → End log
+    by_memory : (x : Bool) (e : SigstoreError) → r ≡ Err e → d.kept.1 ≡ c.kept.1 → MatchBool x (PerformsPrefix (cached (reads_back (image_called call)) cache (key_called call) now (row s)) old new c.kept d.kept) (Performs (cached (reads_back (image_called call)) cache (key_called call) now (row s)) old new c.kept d.kept (Err e)) → (log : List LoggedCall) → IsRun s log → IsBacked s c.kept.1 log → End log
     by_memory false e is same h log run backed = performed (rw is h) log run backed
     by_memory true e is same h log run backed = (h.conversation, h.told, err_lawful c.kept d.kept old.faults new.faults h.conversation e r log is same run backed)
 
-    by_result : (x : Result A SigstoreError) → r ≡ x → RefusalKeeps c d x → Outcome is_memory (cached (reads_back (image_called call)) cache (key_called call) now (row s)) old new c.kept d.kept x → (log : List Place) → IsRun s log → IsBacked s c.kept.1 log → End log
+    by_result : (x : Result A SigstoreError) → r ≡ x → RefusalKeeps c d x → Outcome is_memory (cached (reads_back (image_called call)) cache (key_called call) now (row s)) old new c.kept d.kept x → (log : List LoggedCall) → IsRun s log → IsBacked s c.kept.1 log → End log
     by_result (Ok a) is refused h log run backed = performed (rw is h) log run backed
     by_result (Err e) is refused h log run backed = by_memory (is_memory e) e is (refused refl) h log run backed

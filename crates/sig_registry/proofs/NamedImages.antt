@@ -8,7 +8,7 @@ use Rattle.oci_transport.specs.declared.message.Exchange.{Exchange}
 use Rattle.oci_transport.specs.Link.{Link}
 use Rattle.oci_names.specs.declared.reference.Reference.{Reference}
 use Rattle.oci_auth.specs.declared.auth.RegistryAuth.{RegistryAuth}
-use Rattle.oci_auth.specs.declared.memory.Memory.{Memory}
+use Rattle.oci_auth.specs.declared.auth_state.AuthState.{AuthState}
 use Rattle.oci_digests.specs.Names.{Names, names}
 use Rattle.oci_digests.proofs.Equal.{named}
 use Rattle.oci_descriptors.specs.declared.descriptor.OciDescriptor.{OciDescriptor}
@@ -36,9 +36,9 @@ use Rattle.sig_calls.specs.Caching.{known}
 use Rattle.sig_calls.specs.Calls.{images}
 use Rattle.sig_calls.specs.declared.error.SigstoreError.{SigstoreError}
 use Rattle.sig_calls.specs.declared.error.SigstoreError.TheVariants as sigstore
-use Rattle.sig_calls.specs.declared.wording.Called.{Called}
-use Rattle.sig_calls.specs.Error.{Says}
-use Rattle.sig_calls.specs.Wording.{refusal, worded}
+use Rattle.sig_calls.specs.declared.error_context.Called.{Called}
+use Rattle.sig_calls.specs.Error.{Matches}
+use Rattle.sig_calls.specs.ErrorContext.{refusal, with_error_context}
 use Rattle.sig_calls.specs.Named.{names_each, is_named, answer_named, all_named}
 
 -- ---- images that are pulled
@@ -56,7 +56,7 @@ one_more x xs got content all names_it rest = record {
   named = and_from (names x.digest content) (names_each xs rest.more) ((named x.digest content).1 names_it) rest.named;
 }
 
-layers_named : (s : Context) (image : Reference) (xs : List OciDescriptor) (got all : List ImageLayer) (k l : Memory) (m n : ℕ) (c : List Exchange) → Runs (pull_layers s image xs got) k m c n l (Ok all) → Behind xs got all
+layers_named : (s : Context) (image : Reference) (xs : List OciDescriptor) (got all : List ImageLayer) (k l : AuthState) (m n : ℕ) (c : List Exchange) → Runs (pull_layers s image xs got) k m c n l (Ok all) → Behind xs got all
 unfolding pull_layers
 layers_named s image [] got all k l m n c run =
     let same : got ≡ all = cc ((Runs-done (Ok got) k m c n l (Ok all) run).2) in
@@ -72,7 +72,7 @@ image_of found content layers = record { layers = layers; digest = Some found.1;
 made_named : (found : OciImageManifest × List ℕ × Option (List ℕ)) (content : List ℕ) (layers : List ImageLayer) (given : ImageData) → Behind found.0.layers [] layers → image_of found content layers ≡ given → IsTrue (is_named given)
 made_named found content layers given behind same = subst (λ d. IsTrue (is_named d)) same (subst (λ xs. IsTrue (names_each found.0.layers xs)) (sym behind.is) behind.named)
 
-image_named : (s : Context) (image : Reference) (a : RegistryAuth) (accepted : List (List ℕ)) (given : ImageData) (k l : Memory) (m n : ℕ) (c : List Exchange) → Runs (pull s image a accepted) k m c n l (Ok given) → IsTrue (is_named given)
+image_named : (s : Context) (image : Reference) (a : RegistryAuth) (accepted : List (List ℕ)) (given : ImageData) (k l : AuthState) (m n : ℕ) (c : List Exchange) → Runs (pull s image a accepted) k m c n l (Ok given) → IsTrue (is_named given)
 unfolding pull
 image_named s image a accepted given k l m n c run =
     let found = Runs-ok-parts (pull_image_manifest_and_list_digest s image a) _ k m c n l given run in
@@ -83,15 +83,15 @@ image_named s image a accepted given k l m n c run =
     made_named found.answer config.answer layers.answer given behind (cc ((Runs-done (Ok (image_of found.answer config.answer layers.answer)) layers.between layers.count layers.second n l (Ok given) layers.runs_second).2))
 
 -- a call with context that succeeded
-worded_ok : {A : Type 0} (called : Called) (text : List ℕ) (r : Result A OciDistributionError) (a : A) → worded called text r ≡ Ok a → r ≡ Ok a
+worded_ok : {A : Type 0} (called : Called) (text : List ℕ) (r : Result A OciDistributionError) (a : A) → with_error_context called text r ≡ Ok a → r ≡ Ok a
 worded_ok called text (Ok x) a is = let same : x ≡ a = cc is in ap Ok same
 worded_ok {A} called text (Err e) a is = by_memory (engine_is_memory e) is where
   by_memory : (b : Bool) → (if b then Err sigstore.WantOfMemory else Err (refusal called text e)) ≡ Ok a → (let r : Result A OciDistributionError = Err e in r) ≡ Ok a
   by_memory true h = absurd (cc h)
   by_memory false h = absurd (cc h)
 
-pub pulled_named : (called : Called) (text : List ℕ) (s : Context) (image : Reference) (a : RegistryAuth) (accepted : List (List ℕ)) {old new : Link} {k l : Memory} {r : Result ImageData OciDistributionError} (t : Result ImageData SigstoreError)
-    → Meets engine_is_memory (pull s image a accepted) old new k l r → Says t (worded called text r) → IfOk t (λ given. IsTrue (is_named given))
+pub pulled_named : (called : Called) (text : List ℕ) (s : Context) (image : Reference) (a : RegistryAuth) (accepted : List (List ℕ)) {old new : Link} {k l : AuthState} {r : Result ImageData OciDistributionError} (t : Result ImageData SigstoreError)
+    → Meets engine_is_memory (pull s image a accepted) old new k l r → Matches t (with_error_context called text r) → IfOk t (λ given. IsTrue (is_named given))
 pulled_named called text s image a accepted (Err e) met says = tt
 pulled_named called text s image a accepted {old} {new} {k} {l} {r} (Ok given) met says =
     let answered : r ≡ Ok given = worded_ok called text r given says in

@@ -12,11 +12,11 @@ use Rattle.sig_registry.specs.declared.caching.OciCachingClient.{OciCachingClien
 use Rattle.sig_registry.specs.declared.plain.OciClient.{OciClient}
 use Rattle.sig_registry.specs.declared.registry_client.RegistryClient.{RegistryClient}
 use Rattle.sig_registry.specs.declared.registry_client.RegistryClient.TheVariants as given
-use Rattle.oci_engine.specs.Kept.{memory_of}
+use Rattle.oci_engine.specs.Kept.{auth_state_of}
 
 -- the registry's client, with these responses cached
 abbrev pub engine_state : Engine → Option Answers → Client
-engine_state c answers = record { settings = c.settings; kept = (memory_of c, answers) }
+engine_state c answers = record { settings = c.settings; kept = (auth_state_of c, answers) }
 
 abbrev pub plain_state : OciClient → Client
 plain_state c = engine_state c.client None
@@ -31,4 +31,4 @@ state_of (given.Caching c) = caching_state c
 -- the same for a call without a cache
 pub record PlainlyMade {A : Type 0} (s : Settings) (p : Plain A) (c d : Engine) (old new : Link)
     (r : Result A SigstoreError) : Type 0 where
-  pub made : c.settings ≡ s → (d.settings ≡ s) × Meets is_memory p old new (memory_of c) (memory_of d) r
+  pub made : c.settings ≡ s → (d.settings ≡ s) × Meets is_memory p old new (auth_state_of c) (auth_state_of d) r

@@ -7,7 +7,7 @@ ghost use Rattle.engine_requests.specs.Sources.{described};
 ghost use Rattle.sig_calls.specs.Calls.{digest_made, manifest_made, image_made, document_made, blob_made};
 ghost use Rattle.sig_calls.specs.Calls.{referrers_made};
 ghost use Rattle.sig_registry.specs.States.{PlainlyMade, engine_state};
-ghost use Rattle.sig_calls.specs.Confinement.{Stays, StaysWithTag};
+ghost use Rattle.sig_calls.specs.Confinement.{StaysConfined, StaysWithTag};
 ghost use Rattle.sig_calls.specs.Error.{FaultCounted, NoSinkFault};
 ghost use Rattle.sig_calls.specs.Named.{is_named};
 
@@ -18,7 +18,7 @@ use oci_engine::{Client, ImageData};
 use oci_manifests::{OciImageIndex, OciManifest};
 use oci_names::Reference;
 use oci_transport::Transport;
-use sig_calls::{Called, SigstoreError, worded};
+use sig_calls::{Called, SigstoreError, with_error_context};
 use std::alloc::Global;
 
 /// Returns the digest of the image's manifest or index.
@@ -34,12 +34,12 @@ pub(crate) fn digest_made<T: Transport>(
         client.old client.new
         (T.state transport.old) (T.state transport.new) result }
     ensures fault { FaultCounted (T.state transport.old) (T.state transport.new) result }
-    ensures no_sink { NoSinkFault result }
-    ensures confined { Stays (engine_state client.old None) (engine_state client.new None) moment image.now
+    ensures no_sink_fault { NoSinkFault result }
+    ensures confined { StaysConfined (engine_state client.old None) (engine_state client.new None) moment image.now
         (Some auth.now) (T.state transport.old) (T.state transport.new) }
 {
     let outcome = client.fetch_manifest_digest(alloc, transport, moment, image, auth);
-    worded(alloc, Called::FetchManifest, image, outcome)
+    with_error_context(alloc, Called::FetchManifest, image, outcome)
 }
 
 /// Returns the image with its blobs.
@@ -56,13 +56,13 @@ pub(crate) fn image_made<T: Transport>(
         (image_made (within s moment) image.now auth.now accepted_media_types.now) client.old client.new
         (T.state transport.old) (T.state transport.new) result }
     ensures fault { FaultCounted (T.state transport.old) (T.state transport.new) result }
-    ensures no_sink { NoSinkFault result }
-    ensures confined { Stays (engine_state client.old None) (engine_state client.new None) moment image.now
+    ensures no_sink_fault { NoSinkFault result }
+    ensures confined { StaysConfined (engine_state client.old None) (engine_state client.new None) moment image.now
         (Some auth.now) (T.state transport.old) (T.state transport.new) }
     ensures named { IfOk result (λ image. IsTrue (is_named image)) }
 {
     let outcome = client.pull(alloc, transport, moment, image, auth, accepted_media_types);
-    worded(alloc, Called::Pull, image, outcome)
+    with_error_context(alloc, Called::Pull, image, outcome)
 }
 
 /// Returns the image's manifest or index with its digest.
@@ -78,12 +78,12 @@ pub(crate) fn manifest_made<T: Transport>(
         client.old client.new
         (T.state transport.old) (T.state transport.new) result }
     ensures fault { FaultCounted (T.state transport.old) (T.state transport.new) result }
-    ensures no_sink { NoSinkFault result }
-    ensures confined { Stays (engine_state client.old None) (engine_state client.new None) moment image.now
+    ensures no_sink_fault { NoSinkFault result }
+    ensures confined { StaysConfined (engine_state client.old None) (engine_state client.new None) moment image.now
         (Some auth.now) (T.state transport.old) (T.state transport.new) }
 {
     let outcome = client.pull_manifest(alloc, transport, moment, image, auth);
-    worded(alloc, Called::PullManifest, image, outcome)
+    with_error_context(alloc, Called::PullManifest, image, outcome)
 }
 
 /// Returns the index of the image digest's referrers; a token is obtained first.
@@ -100,7 +100,7 @@ pub(crate) fn referrers_made<T: Transport>(
         (referrers_made (within s moment) image.now auth.now (option_copied artifact_type.entry)) client.old client.new
         (T.state transport.old) (T.state transport.new) result }
     ensures fault { FaultCounted (T.state transport.old) (T.state transport.new) result }
-    ensures no_sink { NoSinkFault result }
+    ensures no_sink_fault { NoSinkFault result }
     ensures confined { StaysWithTag (engine_state client.old None) (engine_state client.new None) moment image.now
         (Some auth.now) (T.state transport.old) (T.state transport.new) }
 {
@@ -112,9 +112,9 @@ pub(crate) fn referrers_made<T: Transport>(
         auth,
         RegistryOperation::Pull,
     );
-    let _token = worded(alloc, Called::FetchManifest, image, given)?;
+    let _token = with_error_context(alloc, Called::FetchManifest, image, given)?;
     let outcome = client.pull_referrers(alloc, transport, moment, image, artifact_type);
-    worded(alloc, Called::PullManifest, image, outcome)
+    with_error_context(alloc, Called::PullManifest, image, outcome)
 }
 
 /// Returns the bytes of the image's manifest or index with their digest.
@@ -131,8 +131,8 @@ pub(crate) fn document_made<T: Transport>(
         (document_made (within s moment) image.now auth.now (listed accepted_media_types.now)) client.old client.new
         (T.state transport.old) (T.state transport.new) result }
     ensures fault { FaultCounted (T.state transport.old) (T.state transport.new) result }
-    ensures no_sink { NoSinkFault result }
-    ensures confined { Stays (engine_state client.old None) (engine_state client.new None) moment image.now
+    ensures no_sink_fault { NoSinkFault result }
+    ensures confined { StaysConfined (engine_state client.old None) (engine_state client.new None) moment image.now
         (Some auth.now) (T.state transport.old) (T.state transport.new) }
 {
     let outcome = client.pull_manifest_raw(
@@ -143,7 +143,7 @@ pub(crate) fn document_made<T: Transport>(
         auth,
         accepted_media_types,
     );
-    worded(alloc, Called::Pull, image, outcome)
+    with_error_context(alloc, Called::Pull, image, outcome)
 }
 
 /// Returns the bytes of a descriptor's blob.
@@ -159,10 +159,10 @@ pub(crate) fn blob_made<T: Transport>(
         client.old client.new
         (T.state transport.old) (T.state transport.new) result }
     ensures fault { FaultCounted (T.state transport.old) (T.state transport.new) result }
-    ensures no_sink { NoSinkFault result }
-    ensures confined { Stays (engine_state client.old None) (engine_state client.new None) moment image.now None
+    ensures no_sink_fault { NoSinkFault result }
+    ensures confined { StaysConfined (engine_state client.old None) (engine_state client.new None) moment image.now None
         (T.state transport.old) (T.state transport.new) }
 {
     let outcome = client.pulled_blob(alloc, transport, moment, image, layer);
-    worded(alloc, Called::Pull, image, outcome)
+    with_error_context(alloc, Called::Pull, image, outcome)
 }

@@ -13,5 +13,5 @@ pub use certificate::{Certificate, CertificateEncoding};
 pub use config::{ClientConfig, ClientProtocol};
 pub use plain::OciClient;
 pub use registry_client::RegistryClient;
-pub use sig_calls::{Called, ClientCapabilities, OciReference, SigstoreError, worded};
+pub use sig_calls::{Called, ClientCapabilities, OciReference, SigstoreError, with_error_context};
 pub use sig_settings::{Auth, PullManifestSettings, PullReferrersSettings, PullSettings};

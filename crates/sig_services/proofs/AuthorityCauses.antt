@@ -16,7 +16,7 @@ use Rattle.oci_transport.specs.declared.message.Exchange.{Exchange}
 use Rattle.oci_transport.specs.declared.message.Method.TheVariants.{Post}
 use Rattle.oci_protocol.specs.Proto.{Reply, Headed, Answered, Failed, TooLong, SinkFailed, read_within, Done, bind, unless_refused, ◌>>=◌}
 use Rattle.oci_protocol.specs.Follow.{follow}
-use Rattle.oci_protocol.specs.Runs.{Replies, Runs, Performs, Breaks, Meets, Told}
+use Rattle.oci_protocol.specs.Runs.{Replies, Runs, Performs, PerformsPrefix, Meets, Told}
 use Rattle.oci_protocol.proofs.Parts.{Runs-done}
 use Rattle.oci_protocol.proofs.Laws.{Runs-count}
 use Rattle.sig_services.specs.Body.{text_body}
@@ -141,7 +141,7 @@ module _ {A : Type 0} (read : List ℕ → Result A FulcioError) (refuses : (bod
   memory_why ChainTooShort m n c h = absurd (cc h)
 
   refused_why : (body : List ℕ) (old new : Link) (k l : Unit {0}) (e : FulcioError) (b : Bool) → is_memory e ≡ b
-      → MatchBool b (Breaks (asked root path token accept body >>= (λ answer. Done (read answer.body))) old new k l) (Performs (asked root path token accept body >>= (λ answer. Done (read answer.body))) old new k l (Err e))
+      → MatchBool b (PerformsPrefix (asked root path token accept body >>= (λ answer. Done (read answer.body))) old new k l) (Performs (asked root path token accept body >>= (λ answer. Done (read answer.body))) old new k l (Err e))
       → Told (λ c. AuthorityWhy read root path token accept old.faults c new.faults e) old new
   refused_why body old new k l e true b h = record { conversation = h.conversation; told = h.told; holds = memory_why e old.faults new.faults h.conversation b }
   refused_why body old new k l e false b h = record { conversation = h.conversation; told = h.told; holds = call_why body k l old.faults new.faults h.conversation (Err e) h.runs }

@@ -13,7 +13,7 @@ use Rattle.oci_transport.specs.declared.message.Exchange.{Exchange}
 use Rattle.oci_transport.specs.declared.message.Method.{Method}
 use Rattle.oci_protocol.specs.Proto.{Reply, Headed, Answered, Failed, TooLong, SinkFailed, read_within, Done, bind, unless_refused, ◌>>=◌}
 use Rattle.oci_protocol.specs.Follow.{follow}
-use Rattle.oci_protocol.specs.Runs.{Replies, Runs, Performs, Breaks, Meets, Told}
+use Rattle.oci_protocol.specs.Runs.{Replies, Runs, Performs, PerformsPrefix, Meets, Told}
 use Rattle.oci_protocol.proofs.Parts.{Runs-done}
 use Rattle.oci_protocol.proofs.Laws.{Runs-count}
 use Rattle.sig_services.specs.Request.{address, url_read, headers_sent, headers_read, headers_of, request_of, body_of, agent_text}
@@ -103,7 +103,7 @@ module _ {A E : Type 0} (read : List ℕ → Option A) (entity : Data → E) (s 
   memory_why (ResponseError x) m n c h = absurd (cc h)
 
   refused_why : (method : Method) (content : Option (List ℕ)) (old new : Link) (k l : Unit {0}) (e : Error E) (b : Bool) → is_memory e ≡ b
-      → MatchBool b (Breaks (call read entity s method path content) old new k l) (Performs (call read entity s method path content) old new k l (Err e)) → Told (λ c. Why read entity s path old.faults c new.faults e) old new
+      → MatchBool b (PerformsPrefix (call read entity s method path content) old new k l) (Performs (call read entity s method path content) old new k l (Err e)) → Told (λ c. Why read entity s path old.faults c new.faults e) old new
   refused_why method content old new k l e true b h = record { conversation = h.conversation; told = h.told; holds = memory_why e old.faults new.faults h.conversation b }
   refused_why method content old new k l e false b h = record { conversation = h.conversation; told = h.told; holds = call_why method content k l old.faults new.faults h.conversation (Err e) h.runs }
 

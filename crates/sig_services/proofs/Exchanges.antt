@@ -1,7 +1,7 @@
 -- The outcomes of one request and its complete answer.
 use Rattle.std.proofs.Common.{◌≡◌, ◌≤◌, ◌<◌, ℕ, Bool, true, false, List, Some, Ok, Err, length, refl}
 use Rattle.oci_transport.specs.Link.{Link, Steady, answer_of, EndsUnbroken, TakesPast}
-use Rattle.json_values.specs.Counts.{Rose}
+use Rattle.json_values.specs.Counts.{Increased}
 use Rattle.oci_transport.specs.declared.message.Request.{Request}
 use Rattle.oci_transport.specs.declared.message.AnswerHead.{AnswerHead}
 use Rattle.oci_protocol.specs.Proto.{limit_of, read_within}
@@ -26,7 +26,7 @@ module _ {E : Type 0} (is_memory : E → Bool) (link too_long : E) where
   unfolding whole
   long limit request head last old mid new other reach le same steady longer k = reached_long 0 request (read_within limit) (whole_reply link too_long) head last limit reach (within limit head) le same steady longer (Meets-err is_memory new k too_long other)
 
-  pub failed : (limit : ℕ) (request : Request) (head : AnswerHead) (last : Request) (old mid new : Link) → is_memory link ≡ false → Reaches 0 request head last old mid → mid.faults ≤ new.faults → new.told ≡ mid.told → Steady mid new → Rose mid.faults new.faults
+  pub failed : (limit : ℕ) (request : Request) (head : AnswerHead) (last : Request) (old mid new : Link) → is_memory link ≡ false → Reaches 0 request head last old mid → mid.faults ≤ new.faults → new.told ≡ mid.told → Steady mid new → Increased mid.faults new.faults
       → (k : Unit {0}) → Meets is_memory (whole link too_long limit request) old new k k (Err link)
   unfolding whole
   failed limit request head last old mid new other reach le same steady rose k = reached_failed 0 request (read_within limit) (whole_reply link too_long) head last reach le same steady rose (Meets-err is_memory new k link other)

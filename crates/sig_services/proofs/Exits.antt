@@ -3,11 +3,11 @@ use Rattle.std.proofs.Common.{◌≡◌, Bool, true, false, Result, Ok, Err}
 use Rattle.std.specs.Prelude.{MatchBool}
 use Rattle.std.specs.Result.{IsErrAnd}
 use Rattle.std.proofs.lemmas.Result.{err_from_is_err_and}
-use Rattle.json_values.specs.Refusals.{Says}
+use Rattle.json_values.specs.Refusals.{Matches}
 use Rattle.oci_transport.specs.Link.{Link}
 use Rattle.oci_protocol.specs.Proto.{Done, ◌>>=◌}
-use Rattle.oci_protocol.specs.Runs.{Meets, Breaks, Performs}
-use Rattle.oci_protocol.proofs.Laws.{Meets-next, Meets-refused, Meets-ok, Meets-memory, Breaks-start, Performs-done}
+use Rattle.oci_protocol.specs.Runs.{Meets, PerformsPrefix, Performs}
+use Rattle.oci_protocol.proofs.Laws.{Meets-next, Meets-refused, Meets-ok, Meets-memory, PerformsPrefix-start, Performs-done}
 use Rattle.sig_services.specs.Exchange.{Row}
 
 module _ {E : Type 0} {of_memory : E → Bool} where
@@ -25,11 +25,11 @@ module _ {E : Type 0} {of_memory : E → Bool} where
   done {link} {k} {a} = Meets-ok of_memory link k a
 
   -- a step without a request
-  pub said : {A : Type 0} (r : Result A E) {s : Result A E} {link : Link} {k : Unit {0}} → Says of_memory r s → Meets of_memory (Done s) link link k k r
+  pub said : {A : Type 0} (r : Result A E) {s : Result A E} {link : Link} {k : Unit {0}} → Matches of_memory r s → Meets of_memory (Done s) link link k k r
   said (Ok a) h = rw h done
   said {A} (Err e) {s} {link} {k} h = record { outcome = refusing (of_memory e) h } where
-    refusing : (b : Bool) → MatchBool b (Unit {0}) (s ≡ Err e) → MatchBool b (Breaks {A = Result A E} (Done s) link link k k) (Performs (Done s) link link k k (Err e))
-    refusing true h = Breaks-start (Done s) link k
+    refusing : (b : Bool) → MatchBool b (Unit {0}) (s ≡ Err e) → MatchBool b (PerformsPrefix {A = Result A E} (Done s) link link k k) (Performs (Done s) link link k k (Err e))
+    refusing true h = PerformsPrefix-start (Done s) link k
     refusing false h = rw h (Performs-done link k (Err e))
 
   -- a step that failed, as the last one

@@ -2,7 +2,7 @@
 use Rattle.std.specs.Prelude.{◌≡◌, ◌++◌, ◌<◌, ℕ, List, [], length, Option, Some, None, Result, Err, IsErr, IfErr, codes}
 use Rattle.url.specs.Parts.{Parts}
 use Rattle.url.specs.Parser.{parse_url}
-use Rattle.json_values.specs.Counts.{Rose}
+use Rattle.json_values.specs.Counts.{Increased}
 use Rattle.oci_transport.specs.Link.{Link}
 use Rattle.oci_transport.specs.declared.message.Answer.{Answer}
 use Rattle.oci_transport.specs.declared.message.Exchange.{Exchange}
@@ -16,7 +16,7 @@ use Rattle.sig_services.specs.declared.fulcio_error.FulcioError.TheVariants.{Jso
 -- by the exchanges of the call, and the fault counts before and after it
 abbrev pub AuthorityWhy : {A : Type 0} → (List ℕ → Result A FulcioError) → Parts → List ℕ → List ℕ
     → Option (List ℕ) → ℕ → List Exchange → ℕ → FulcioError → Type 0
-AuthorityWhy read root path token accept before c after Broken = Rose before after
+AuthorityWhy read root path token accept before c after Broken = Increased before after
 AuthorityWhy read root path token accept before c after BodyTooLong =
     (answer : Answer) × IsAnswer c answer × (4294967295 < length answer.body)
 AuthorityWhy read root path token accept before c after (Url text) =

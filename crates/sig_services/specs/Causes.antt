@@ -1,7 +1,7 @@
 -- Why a call to Rekor failed.
 use Rattle.std.specs.Prelude.{◌≡◌, ◌<◌, ℕ, List, [], ◌∷◌, length, true, false, Option, Some, None, Result, IfErr}
 use Rattle.serde_json.specs.Data.{Data}
-use Rattle.json_values.specs.Counts.{Rose}
+use Rattle.json_values.specs.Counts.{Increased}
 use Rattle.oci_transport.specs.Link.{Link}
 use Rattle.oci_transport.specs.Urls.{request_url}
 use Rattle.oci_transport.specs.declared.message.Answer.{Answer}
@@ -21,7 +21,7 @@ IsAnswer c answer = (e : Exchange) × (c ≡ e ∷ []) × (e.answer ≡ Some ans
 -- the cause of an error, by the exchanges and the fault counts before and after them
 abbrev pub Why : {A E : Type 0} → (List ℕ → Option A) → (Data → E) → Configuration → List ℕ → ℕ → List Exchange
     → ℕ → Error E → Type 0
-Why read entity s path before c after Broken = Rose before after
+Why read entity s path before c after Broken = Increased before after
 Why read entity s path before c after BodyTooLong =
     (answer : Answer) × IsAnswer c answer × (s.max_body_bytes < length answer.body)
 Why read entity s path before c after (Url text) =

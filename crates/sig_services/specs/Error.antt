@@ -10,5 +10,5 @@ is_memory WantOfMemory = true
 is_memory _ = false
 
 -- the result of a step without a request, or out of memory
-abbrev pub Says : {A E : Type 0} → Result A (Error E) → Result A (Error E) → Type 0
-Says answer said = Refusals.Says is_memory answer said
+abbrev pub Matches : {A E : Type 0} → Result A (Error E) → Result A (Error E) → Type 0
+Matches answer said = Refusals.Matches is_memory answer said

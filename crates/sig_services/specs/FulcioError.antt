@@ -11,8 +11,8 @@ is_memory WantOfMemory = true
 is_memory _ = false
 
 -- the result of a step without a request, or out of memory
-abbrev pub Says : {A : Type 0} → Result A FulcioError → Result A FulcioError → Type 0
-Says answer said = Refusals.Says is_memory answer said
+abbrev pub Matches : {A : Type 0} → Result A FulcioError → Result A FulcioError → Type 0
+Matches answer said = Refusals.Matches is_memory answer said
 
 -- what is printed: what was refused, and what to do
 abbrev pub message_of : FulcioError → List ℕ

@@ -4,7 +4,7 @@ ghost use Rattle.serde_json.specs.Written.{compact_text};
 ghost use Rattle.oci_protocol.specs.Runs.{Meets};
 ghost use Rattle.sig_models.specs.CertificateRequest.{request_written, signing_request_written};
 ghost use Rattle.sig_services.specs.Client.{asked, certificate_in, headers_of, joined};
-ghost use Rattle.sig_services.specs.FulcioError.{Says, is_memory};
+ghost use Rattle.sig_services.specs.FulcioError.{Matches, is_memory};
 ghost use Rattle.sig_services.specs.Client.{parted, request_of, response_in, response_of};
 ghost use Rattle.sig_services.specs.AuthorityCauses.{AuthorityRefusedFor};
 ghost use Rattle.sig_services.specs.Client as row;
@@ -86,7 +86,7 @@ impl fmt::Display for FulcioCert {
 }
 
 fn joined(alloc: Global, root: &Url, path: &str) -> Result<Url, FulcioError>
-    ensures { Says result (joined root.now path.now) }
+    ensures { Matches result (joined root.now path.now) }
 {
     match root.join(path) {
         Ok(url) => Ok(url),
@@ -133,7 +133,7 @@ fn headers_with(
 }
 
 fn headers_of(alloc: Global, token: &str, accept: Option<&str>) -> Result<Headers, FulcioError>
-    ensures { Says result (headers_of token.now (option_copied accept.entry)) }
+    ensures { Matches result (headers_of token.now (option_copied accept.entry)) }
 {
     let credentials = bearer(alloc, token)?;
     match headers_with(alloc, credentials.as_str(), accept)? {
@@ -151,7 +151,7 @@ fn request_of(
     accept: Option<&str>,
     body: Blob,
 ) -> Result<Request, FulcioError>
-    ensures { Says result
+    ensures { Matches result
         (request_of root.now path.now token.now (option_copied accept.entry) body) }
 {
     let url = joined(alloc, root, path)?;
@@ -186,7 +186,7 @@ fn asked<T: Transport>(
 }
 
 fn certificate_in(alloc: Global, answer: Answer) -> Result<FulcioCert, FulcioError>
-    ensures { Says result (certificate_in answer.body) }
+    ensures { Matches result (certificate_in answer.body) }
 {
     match Text::from_body(alloc, answer.body.as_slice())? {
         Some(text) => Ok(FulcioCert { text }),
@@ -206,7 +206,7 @@ fn copies(alloc: Global, certificates: &[Text]) -> Result<List<Text>, AllocError
 
 // Returns the first certificate, and the others.
 fn parted(alloc: Global, chain: &CertificateChain) -> Result<(Text, List<Text>), FulcioError>
-    ensures { Says result (parted chain.now.certificates) }
+    ensures { Matches result (parted chain.now.certificates) }
 {
     let Some((first, others)) = chain.certificates.as_slice().split_first() else {
         return Err(FulcioError::ChainTooShort);
@@ -223,7 +223,7 @@ fn response_of(
     alloc: Global,
     certificate: SigningCertificate,
 ) -> Result<CertificateResponse, FulcioError>
-    ensures { Says result (response_of certificate) }
+    ensures { Matches result (response_of certificate) }
 {
     match certificate {
         SigningCertificate::SignedCertificateDetachedSct(signed) => {
@@ -246,7 +246,7 @@ fn response_of(
 }
 
 fn response_in(alloc: Global, answer: Answer) -> Result<CertificateResponse, FulcioError>
-    ensures { Says result (response_in answer.body) }
+    ensures { Matches result (response_in answer.body) }
 {
     let Some(certificate) = read_plain(alloc, answer.body.as_slice())? else {
         return Err(FulcioError::Json(answer.body));

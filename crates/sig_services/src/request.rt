@@ -1,7 +1,7 @@
 // Requests to Rekor.
 ghost use Rattle.std.specs.Prelude.{◌≡◌, IfOk};
 ghost use Rattle.form_urlencoded.specs.Form.{byte_serialize};
-ghost use Rattle.sig_services.specs.Error.{Says};
+ghost use Rattle.sig_services.specs.Error.{Matches};
 ghost use Rattle.sig_services.specs.Request.{address, with_agent, with_type};
 ghost use Rattle.sig_services.specs.Request.{headers_sent, headers_of, request_of, url_of};
 
@@ -34,7 +34,7 @@ fn address(alloc: Global, base: &str, path: &str) -> Result<Text, AllocError>
 }
 
 fn url_of<E>(alloc: Global, text: Text) -> Result<Url, Error<E>>
-    ensures { Says result (url_of text) }
+    ensures { Matches result (url_of text) }
 {
     match request_url(alloc, text.as_str()) {
         Ok(url) => Ok(url),
@@ -79,7 +79,7 @@ fn headers_of<E>(
     agent: &Option<Text>,
     content: &Option<Blob>,
 ) -> Result<Headers, Error<E>>
-    ensures { Says result (headers_of agent.now content.now) }
+    ensures { Matches result (headers_of agent.now content.now) }
 {
     match headers_sent(alloc, agent, content)? {
         Some(headers) => Ok(headers),
@@ -102,7 +102,7 @@ pub(crate) fn request_of<E>(
     path: &str,
     content: Option<Blob>,
 ) -> Result<Request, Error<E>>
-    ensures { Says result (request_of configuration.now method path.now content) }
+    ensures { Matches result (request_of configuration.now method path.now content) }
 {
     let text = address(alloc, configuration.base_path.as_str(), path)?;
     let url = url_of(alloc, text)?;

@@ -8,7 +8,7 @@ use engine_streams::{
 };
 use engine_terms::{Call, ClientProtocol, OciDistributionError, Settings};
 use json_values::{Blob, List, Text};
-use oci_auth::Memory;
+use oci_auth::AuthState;
 use oci_names::Reference;
 use oci_transport::{HeaderError, Headers, Recorded, Script};
 use std::alloc::{AllocError, Global};
@@ -79,7 +79,7 @@ pub fn whole(
         digest: LAYER_DIGEST,
         urls: None,
     };
-    let mut memory = Memory::new(alloc, 60);
+    let mut memory = AuthState::new(alloc, 60);
     pull_blob_stream(alloc, script, &mut memory, &call, &layer)
 }
 
@@ -102,7 +102,7 @@ pub fn part(
         digest: LAYER_DIGEST,
         urls: None,
     };
-    let mut memory = Memory::new(alloc, 60);
+    let mut memory = AuthState::new(alloc, 60);
     pull_blob_stream_partial(alloc, script, &mut memory, &call, &layer, range)
 }
 

@@ -1,7 +1,7 @@
 // Credentials and tokens.
 use json_values::{Copied, Text};
 use oci_auth::{
-    Memory, RegistryAuth, RegistryOperation, RegistryToken, RegistryTokenType, TokenCache,
+    AuthState, RegistryAuth, RegistryOperation, RegistryToken, RegistryTokenType, TokenCache,
     TokenError, bearer_token_cache_expiration, store,
 };
 use oci_names::Reference;
@@ -115,7 +115,7 @@ fn a_token_is_given_up_to_its_expiration(rt: HostRuntime) {
 }
 
 fn stored_once(alloc: Global) -> Result<bool, AllocError> {
-    let mut memory = Memory::new(alloc, 60);
+    let mut memory = AuthState::new(alloc, 60);
     let auth = RegistryAuth::Bearer(Text::new(alloc, "t1")?);
     store(alloc, &mut memory, "r.example", &auth)?;
     store(alloc, &mut memory, "r.example", &RegistryAuth::Anonymous)?;

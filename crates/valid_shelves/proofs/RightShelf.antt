@@ -30,10 +30,10 @@ use Rattle.oci_link.specs.declared.shelf.ShelfDocument.{ShelfDocument}
 use Rattle.engine_requests.specs.Addresses.{manifest_name}
 use Rattle.engine_terms.specs.declared.settings.Settings.{Settings}
 use Rattle.engine_rows.specs.Image.{layer_of}
-use Rattle.shelf_laws.specs.Shelves.{IsShort, HasDocument, HasBlob, HasLayer, HasBlobs, ImageOn, layers_on}
+use Rattle.shelf_laws.specs.Shelves.{FitsLimit, HasDocument, HasBlob, HasLayer, HasBlobs, ImageOn, layers_on}
 use Rattle.shelf_laws.proofs.ShelfReferences.{tag_named}
 use Rattle.shelf_laws.proofs.References.{spelled}
-use Rattle.cosign_layers.specs.Standing.{Meaning}
+use Rattle.cosign_layers.specs.Satisfying.{PolicyContext}
 use Rattle.cosign_rows.specs.Part.{named_layer, read_layer}
 use Rattle.cosign_rows.specs.References.{signature_tag}
 use Rattle.cosign_rows.specs.Search.{payload_type}
@@ -97,7 +97,7 @@ is_named_once digest layer is = ap (λ b. cond b (Some layer) None) is
 
 -- ---- the shelf is valid
 
-module _ {V : Type 0} {H : V → Type 0} {meaning : Meaning V H} {s : Settings} {image : Reference} {a : RegistryAuth} {accepted : List (List ℕ)} {tag : List ℕ} {packed signing : Packed} (small : IsSmall meaning s image a accepted tag packed signing) where
+module _ {V : Type 0} {H : V → Type 0} {policy_context : PolicyContext V H} {s : Settings} {image : Reference} {a : RegistryAuth} {accepted : List (List ℕ)} {tag : List ℕ} {packed signing : Packed} (small : IsSmall policy_context s image a accepted tag packed signing) where
   abbrev shelf : Shelf
   shelf = shelf_of (repository_of image) tag packed signing
 
@@ -174,17 +174,17 @@ module _ {V : Type 0} {H : V → Type 0} {meaning : Meaning V H} {s : Settings} 
   image_on = record { first = packed.bytes; there = image_document; document = Image packed.manifest; reads = packed.reads; manifest = packed.manifest; leads = refl; blobs = blobs_on packed accepted own_config own_layer small.accepts }
 
   -- the payload is read as the layer that satisfies the policy
-  read_is : read_layer meaning.trust d signing.descriptor (named_layer signing.descriptor.digest (layers_on shelf signing.manifest.layers)) ≡ Ok small.signature
+  read_is : read_layer policy_context.trust d signing.descriptor (named_layer signing.descriptor.digest (layers_on shelf signing.manifest.layers)) ≡ Ok small.signature
   read_is =
       let own : ImageLayer = layer_of signing.descriptor signing.layer in
       let content : unwrap_or (map.get shelf.blobs signing.descriptor.digest) [] ≡ signing.layer = ap (λ (t : List ℕ). unwrap_or (map.get shelf.blobs t) []) signing.layer_is ∙ ap (λ o. unwrap_or o []) payload_there in
       let named_is : names signing.descriptor.digest signing.layer ≡ true = (named signing.descriptor.digest signing.layer).1 (Sha256, signing.layer_is) in
-      ap (λ (xs : List OciDescriptor). read_layer meaning.trust d signing.descriptor (named_layer signing.descriptor.digest (layers_on shelf xs))) signing.layers_are
-      ∙ ap (λ (b : List ℕ). read_layer meaning.trust d signing.descriptor (named_layer signing.descriptor.digest (layer_of signing.descriptor b ∷ []))) content
-      ∙ ap (read_layer meaning.trust d signing.descriptor) (is_named_once signing.descriptor.digest own named_is)
+      ap (λ (xs : List OciDescriptor). read_layer policy_context.trust d signing.descriptor (named_layer signing.descriptor.digest (layers_on shelf xs))) signing.layers_are
+      ∙ ap (λ (b : List ℕ). read_layer policy_context.trust d signing.descriptor (named_layer signing.descriptor.digest (layer_of signing.descriptor b ∷ []))) content
+      ∙ ap (read_layer policy_context.trust d signing.descriptor) (is_named_once signing.descriptor.digest own named_is)
       ∙ small.is_read
 
-  abbrev signed : SignedByTag meaning d shelf
+  abbrev signed : SignedByTag policy_context d shelf
   signed = record {
     signatures = sha256 signing.bytes;
     tagged = get_here (map.insert map.empty tag d) (signature_tag d) (sha256 signing.bytes);
@@ -206,7 +206,7 @@ module _ {V : Type 0} {H : V → Type 0} {meaning : Meaning V H} {s : Settings} 
   abbrev FitsDocument : List ℕ → ShelfDocument → Type 0
   FitsDocument key document = length document.content ≤ s.max_body_bytes
 
-  short : IsShort s shelf
+  short : FitsLimit s shelf
   short = record {
     documents = get_all FitsDocument _ d _ small.documents_short.0 (get_all FitsDocument map.empty (sha256 signing.bytes) _ small.documents_short.1 (get_none FitsDocument));
     blobs = get_all FitsBlob Three (sha256 signing.layer) signing.layer (small.blobs_short 3 [] (omega arith)) (get_all FitsBlob Two (sha256 signing.config) signing.config (small.blobs_short 2 [] (omega arith))
@@ -215,7 +215,7 @@ module _ {V : Type 0} {H : V → Type 0} {meaning : Meaning V H} {s : Settings} 
   }
 
   -- the shelf is valid
-  pub small_valid : ValidShelf meaning s image a accepted shelf
+  pub small_valid : ValidShelf policy_context s image a accepted shelf
   small_valid = record {
     asked = asked;
     digest = d;

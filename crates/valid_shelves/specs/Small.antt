@@ -18,8 +18,8 @@ use Rattle.oci_link.specs.declared.shelf.ShelfDocument.{ShelfDocument}
 use Rattle.engine_answers.specs.Documents.{document_read}
 use Rattle.engine_terms.specs.declared.settings.Settings.{Settings}
 use Rattle.engine_rows.specs.Image.{layer_of}
-use Rattle.shelf_laws.specs.Home.{IsWrittenPlainly, CanBeShown}
-use Rattle.cosign_layers.specs.Standing.{Meaning, StandsFor}
+use Rattle.shelf_laws.specs.IsHosted.{IsWrittenPlainly, CanBeShown}
+use Rattle.cosign_layers.specs.Satisfying.{PolicyContext, StandsFor}
 use Rattle.cosign_layers.specs.declared.layer.SignatureLayer.{SignatureLayer}
 use Rattle.cosign_rows.specs.Part.{read_layer}
 use Rattle.cosign_rows.specs.References.{signature_tag}
@@ -76,7 +76,7 @@ shelf_of repository tag image signing = record {
 
 -- An image by a tag that is not its digest's signature tag, and a signature of it, which is another document. The
 -- signature's payload is read as a layer that stands for the image. Nothing exceeds the limit of a body.
-pub record IsSmall {V : Type 0} {H : V → Type 0} (meaning : Meaning V H) (s : Settings) (image : Reference)
+pub record IsSmall {V : Type 0} {H : V → Type 0} (policy_context : PolicyContext V H) (s : Settings) (image : Reference)
     (a : RegistryAuth) (accepted : List (List ℕ)) (tag : List ℕ) (packed signing : Packed) : Type 0 where
   pub by_tag : tag_of image ≡ Some tag
   pub no_digest : digest_of image ≡ None
@@ -87,9 +87,9 @@ pub record IsSmall {V : Type 0} {H : V → Type 0} (meaning : Meaning V H) (s : 
   pub accepts : Contains accepted packed.descriptor.media_type
   pub payload : Contains (payload_type ∷ []) signing.descriptor.media_type
   pub signature : SignatureLayer
-  pub is_read : read_layer meaning.trust (sha256 packed.bytes) signing.descriptor
+  pub is_read : read_layer policy_context.trust (sha256 packed.bytes) signing.descriptor
       (Some (layer_of signing.descriptor signing.layer)) ≡ Ok signature
-  pub stands : StandsFor meaning (sha256 packed.bytes) signature
+  pub stands : StandsFor policy_context (sha256 packed.bytes) signature
   pub no_entry : signature.bundle ≡ None
   pub no_certificate : signature.certificate_signature ≡ None
   pub other_tag : (tag ≡ signature_tag (sha256 packed.bytes)) → ⊥

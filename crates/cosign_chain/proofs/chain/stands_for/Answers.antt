@@ -1,5 +1,5 @@
 use Rattle.std.proofs.Common.{length, sym, ap}
-use Rattle.cosign_chain.proofs.LayerStands.{another, supported, rejected}
+use Rattle.cosign_chain.proofs.LayerSatisfies.{another, supported, rejected}
 use Rattle.cosign_chain.proofs.chain.stands_for.Goals as goal
 
 pub returns-then-not-same_reading : goal.returns-then-not-same_reading

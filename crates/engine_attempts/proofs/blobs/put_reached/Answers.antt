@@ -21,20 +21,20 @@ returns-in-Err-BodyTooLong g c = λ old request k p reached takes. spills_none _
 pub returns-in-Judge : goal.returns-in-Judge
 returns-in-Judge g c = λ old request k p reached takes. spills_none _ (blob_wanting _ _ _ _ _ _ _ _ _ k _ takes reached c.read_body.ensures.count c.read_body.ensures.told c.read_body.ensures.steady refl) (memory_is_none _)
 
-pub returns-in_err-both_compared-in-Ok-pour : goal.returns-in_err-both_compared-in-Ok-pour
-returns-in_err-both_compared-in-Ok-pour g c = λ old request k p reached takes. spills_other _ _ _ _ _ _ _ _ k _ _ _ _ _ _ _ _ takes reached (sym c.in_ok-plan.ensures ∙ c.in-Pour.is) c.pour.ensures.count c.pour.ensures.told c.pour.ensures.steady c.pour.ensures.sink_count c.in-Ok-pour.ensures.poured c.digesters-digesters.ensures (λ m h. c.in_err-both_compared-in-Ok-pour.ensures m h) c.from_residual-in_err-both_compared-in-Ok-pour.ensures.1
+pub returns-in_err-both_compared-in-Ok-stream_body : goal.returns-in_err-both_compared-in-Ok-stream_body
+returns-in_err-both_compared-in-Ok-stream_body g c = λ old request k p reached takes. spills_other _ _ _ _ _ _ _ _ k _ _ _ _ _ _ _ _ takes reached (sym c.in_ok-plan.ensures ∙ c.in-Pour.is) c.stream_body.ensures.count c.stream_body.ensures.told c.stream_body.ensures.steady c.stream_body.ensures.sink_count c.in-Ok-stream_body.ensures.poured c.digesters-digesters.ensures (λ m h. c.in_err-both_compared-in-Ok-stream_body.ensures m h) c.from_residual-in_err-both_compared-in-Ok-stream_body.ensures.1
 
-pub returns-in-Ok-pour : goal.returns-in-Ok-pour
-returns-in-Ok-pour g c = λ old request k p reached takes. spills_whole _ _ _ _ _ _ _ _ k _ _ _ _ _ _ takes reached (sym c.in_ok-plan.ensures ∙ c.in-Pour.is) c.pour.ensures.count c.pour.ensures.told c.pour.ensures.steady c.pour.ensures.sink_count c.in-Ok-pour.ensures.poured c.digesters-digesters.ensures (λ m h. c.in_ok-both_compared-in-Ok-pour.ensures m h)
+pub returns-in-Ok-stream_body : goal.returns-in-Ok-stream_body
+returns-in-Ok-stream_body g c = λ old request k p reached takes. spills_whole _ _ _ _ _ _ _ _ k _ _ _ _ _ _ takes reached (sym c.in_ok-plan.ensures ∙ c.in-Pour.is) c.stream_body.ensures.count c.stream_body.ensures.told c.stream_body.ensures.steady c.stream_body.ensures.sink_count c.in-Ok-stream_body.ensures.poured c.digesters-digesters.ensures (λ m h. c.in_ok-both_compared-in-Ok-stream_body.ensures m h)
 
-pub returns-in-Err-TransportFault-pour : goal.returns-in-Err-TransportFault-pour
-returns-in-Err-TransportFault-pour g c = λ old request k p reached takes. spills_front _ _ _ _ _ _ reached (pours_success _ _ _ _ (sym c.in_ok-plan.ensures ∙ c.in-Pour.is)) c.pour.ensures.told c.pour.ensures.steady c.pour.ensures.sink_count c.pour.ensures.front (blob_failed _ _ _ _ _ _ _ _ _ k takes reached c.pour.ensures.count c.pour.ensures.told c.pour.ensures.steady (c.in-Err-TransportFault-pour.ensures.fault (rw c.in-Err-TransportFault-pour.field-0-is refl))) (fault_is_none _)
+pub returns-in-Err-TransportFault-stream_body : goal.returns-in-Err-TransportFault-stream_body
+returns-in-Err-TransportFault-stream_body g c = λ old request k p reached takes. spills_front _ _ _ _ _ _ reached (pours_success _ _ _ _ (sym c.in_ok-plan.ensures ∙ c.in-Pour.is)) c.stream_body.ensures.told c.stream_body.ensures.steady c.stream_body.ensures.sink_count c.stream_body.ensures.prefix (blob_failed _ _ _ _ _ _ _ _ _ k takes reached c.stream_body.ensures.count c.stream_body.ensures.told c.stream_body.ensures.steady (c.in-Err-TransportFault-stream_body.ensures.fault (rw c.in-Err-TransportFault-stream_body.field-0-is refl))) (fault_is_none _)
 
-pub returns-in-Err-BodyTooLong-pour : goal.returns-in-Err-BodyTooLong-pour
-returns-in-Err-BodyTooLong-pour g c = λ old request k p reached takes. spills_front _ _ _ _ _ _ reached (pours_success _ _ _ _ (sym c.in_ok-plan.ensures ∙ c.in-Pour.is)) c.pour.ensures.told c.pour.ensures.steady c.pour.ensures.sink_count c.pour.ensures.front (blob_long _ _ _ _ _ _ _ _ _ k _ takes reached (sym c.in_ok-plan.ensures ∙ c.in-Pour.is) refl c.pour.ensures.count c.pour.ensures.told c.pour.ensures.steady (c.in-Err-BodyTooLong-pour.ensures.long (rw c.in-Err-BodyTooLong-pour.field-0-is refl))) (long_is_none _)
+pub returns-in-Err-BodyTooLong-stream_body : goal.returns-in-Err-BodyTooLong-stream_body
+returns-in-Err-BodyTooLong-stream_body g c = λ old request k p reached takes. spills_front _ _ _ _ _ _ reached (pours_success _ _ _ _ (sym c.in_ok-plan.ensures ∙ c.in-Pour.is)) c.stream_body.ensures.told c.stream_body.ensures.steady c.stream_body.ensures.sink_count c.stream_body.ensures.prefix (blob_long _ _ _ _ _ _ _ _ _ k _ takes reached (sym c.in_ok-plan.ensures ∙ c.in-Pour.is) refl c.stream_body.ensures.count c.stream_body.ensures.told c.stream_body.ensures.steady (c.in-Err-BodyTooLong-stream_body.ensures.long (rw c.in-Err-BodyTooLong-stream_body.field-0-is refl))) (long_is_none _)
 
 pub returns-in-Err-SinkFault : goal.returns-in-Err-SinkFault
-returns-in-Err-SinkFault g c = λ old request k p reached takes. spills_front _ _ _ _ _ _ reached (pours_success _ _ _ _ (sym c.in_ok-plan.ensures ∙ c.in-Pour.is)) c.pour.ensures.told c.pour.ensures.steady c.pour.ensures.sink_count c.pour.ensures.front (blob_spilled _ _ _ _ _ _ _ _ k _ _ takes reached (sym c.in_ok-plan.ensures ∙ c.in-Pour.is) c.pour.ensures.count c.pour.ensures.told c.pour.ensures.steady) (λ h. c.in-Err-SinkFault.ensures.sink_fault (rw c.in-Err-SinkFault.field-0-is refl))
+returns-in-Err-SinkFault g c = λ old request k p reached takes. spills_front _ _ _ _ _ _ reached (pours_success _ _ _ _ (sym c.in_ok-plan.ensures ∙ c.in-Pour.is)) c.stream_body.ensures.told c.stream_body.ensures.steady c.stream_body.ensures.sink_count c.stream_body.ensures.prefix (blob_spilled _ _ _ _ _ _ _ _ k _ _ takes reached (sym c.in_ok-plan.ensures ∙ c.in-Pour.is) c.stream_body.ensures.count c.stream_body.ensures.told c.stream_body.ensures.steady) (λ h. c.in-Err-SinkFault.ensures.sink_fault (rw c.in-Err-SinkFault.field-0-is refl))
 
 pub returns : goal.returns
-returns g c = λ old request k p reached takes. spills_front _ _ _ _ _ _ reached (pours_success _ _ _ _ (sym c.in_ok-plan.ensures ∙ c.in-Pour.is)) c.pour.ensures.told c.pour.ensures.steady c.pour.ensures.sink_count c.pour.ensures.front (blob_wanting _ _ _ _ _ _ _ _ _ k _ takes reached c.pour.ensures.count c.pour.ensures.told c.pour.ensures.steady refl) (memory_is_none _)
+returns g c = λ old request k p reached takes. spills_front _ _ _ _ _ _ reached (pours_success _ _ _ _ (sym c.in_ok-plan.ensures ∙ c.in-Pour.is)) c.stream_body.ensures.told c.stream_body.ensures.steady c.stream_body.ensures.sink_count c.stream_body.ensures.prefix (blob_wanting _ _ _ _ _ _ _ _ _ k _ takes reached c.stream_body.ensures.count c.stream_body.ensures.told c.stream_body.ensures.steady refl) (memory_is_none _)

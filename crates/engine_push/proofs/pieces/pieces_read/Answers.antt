@@ -21,7 +21,7 @@ pub returns-then-more-eq0-clause-run : goal.returns-then-more-eq0-clause-run
 returns-then-more-eq0-clause-run g c = hold_ended _ _ c.loop-held.invariant c.in_ok-piece.piece (rw c.as_slice.ensures at c.if-more-eq0.true)
 
 pub returns-then-more-eq0-clause-gives : goal.returns-then-more-eq0-clause-gives
-returns-then-more-eq0-clause-gives g c = (all_taken (g.P.PieceSource.state c.args.pieces.now) (g.P.PieceSource.state c.loop-held.pieces) (g.P.PieceSource.state c.next_piece.new.pieces) _ _ c.loop-held.invariant.taken c.in_ok-piece.ensures.front (rw c.as_slice.ensures at c.if-more-eq0.true), c.in_ok-piece.ensures.end (nil_of _ (rw c.as_slice.ensures at c.if-more-eq0.true)))
+returns-then-more-eq0-clause-gives g c = (all_taken (g.P.PieceSource.state c.args.pieces.now) (g.P.PieceSource.state c.loop-held.pieces) (g.P.PieceSource.state c.next_piece.new.pieces) _ _ c.loop-held.invariant.taken c.in_ok-piece.ensures.prefix (rw c.as_slice.ensures at c.if-more-eq0.true), c.in_ok-piece.ensures.end (nil_of _ (rw c.as_slice.ensures at c.if-more-eq0.true)))
 
 pub returns-in_err-held-clause-run : goal.returns-in_err-held-clause-run
 returns-in_err-held-clause-run g c = hold_wanting _ _ c.loop-held.invariant _ c.from_residual-in_err-held.ensures.1
@@ -33,7 +33,7 @@ pub returns-in_err-held-clause-refused : goal.returns-in_err-held-clause-refused
 returns-in_err-held-clause-refused g c = err_is _ _ _ c.from_residual-in_err-held.ensures.1 tt
 
 pub loop-held-preserved : goal.loop-held-preserved
-loop-held-preserved g c = rw c.in_ok-held.ensures (held_more _ _ c.loop-held.invariant _ (omega (arith, c.if-more-eq0.false, ap length c.as_slice.ensures)) (omega (arith, c.if-more-limit.false, ap length c.as_slice.ensures, ap length c.as_slice-in-loop-held.ensures)) c.in_ok-piece.ensures.front c.in_ok-piece.ensures.count)
+loop-held-preserved g c = rw c.in_ok-held.ensures (held_more _ _ c.loop-held.invariant _ (omega (arith, c.if-more-eq0.false, ap length c.as_slice.ensures)) (omega (arith, c.if-more-limit.false, ap length c.as_slice.ensures, ap length c.as_slice-in-loop-held.ensures)) c.in_ok-piece.ensures.prefix c.in_ok-piece.ensures.count)
 
 pub returns-then-more-limit-clause-refused : goal.returns-then-more-limit-clause-refused
-returns-then-more-limit-clause-refused g c = took_more _ (g.P.PieceSource.state c.args.pieces.now) (g.P.PieceSource.state c.loop-held.pieces) (g.P.PieceSource.state c.next_piece.new.pieces) c.loop-held.held c.in_ok-piece.piece c.loop-held.invariant.taken c.in_ok-piece.ensures.front (omega (arith, c.if-more-limit.true, ap length c.as_slice.ensures, ap length c.as_slice-in-loop-held.ensures))
+returns-then-more-limit-clause-refused g c = took_more _ (g.P.PieceSource.state c.args.pieces.now) (g.P.PieceSource.state c.loop-held.pieces) (g.P.PieceSource.state c.next_piece.new.pieces) c.loop-held.held c.in_ok-piece.piece c.loop-held.invariant.taken c.in_ok-piece.ensures.prefix (omega (arith, c.if-more-limit.true, ap length c.as_slice.ensures, ap length c.as_slice-in-loop-held.ensures))

@@ -15,8 +15,8 @@ returns-clause-next c = holds_next
 pub returns-clause-spells : goal.returns-clause-spells
 returns-clause-spells c = finished_spells
 
-pub returns-clause-front : goal.returns-clause-front
-returns-clause-front c = front_goes_out
+pub returns-clause-prefix : goal.returns-clause-prefix
+returns-clause-prefix c = front_goes_out
 
 pub returns-clause-so_far : goal.returns-clause-so_far
 returns-clause-so_far c = texts_so_far

@@ -1,6 +1,6 @@
 use Rattle.pull_case.specs.Replay.{state_of}
 use Rattle.cosign_client.specs.State.{client_state}
-use Rattle.pull_cases.specs.Rounds.{row_for}
+use Rattle.pull_cases.specs.PullsAt.{row_for}
 use Rattle.pull_cases.proofs.PullsInTurn.{told_round, told_is_calm, no_shorter, from_ok, always}
 use Rattle.pull_cases.proofs.pulls.pull_at.Goals as goal
 
@@ -22,5 +22,5 @@ returns-clause-settings g c = c.verified_pull-outcome.ensures.settings
 pub returns-clause-log_keys : goal.returns-clause-log_keys
 returns-clause-log_keys g c = c.verified_pull-outcome.ensures.keys
 
-pub returns-clause-calm : goal.returns-clause-calm
-returns-clause-calm g c = always c.add_report-added.result (told_is_calm c.verified_pull-outcome.new.transport c.conversation-2.result.now c.conversation-2.ensures.told c.conversation-2.ensures.calm)
+pub returns-clause-faults_recorded : goal.returns-clause-faults_recorded
+returns-clause-faults_recorded g c = always c.add_report-added.result (told_is_calm c.verified_pull-outcome.new.transport c.conversation-2.result.now c.conversation-2.ensures.told c.conversation-2.ensures.faults_recorded)

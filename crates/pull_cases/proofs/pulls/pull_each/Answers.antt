@@ -14,7 +14,7 @@ loop-moment-preserved g c = (
       (take_more c.args.moments.now c.loop-moment.moment-index c.loop-moment-test.true) c.loop-moment.invariant.0 c.in_ok-pull_at.ensures.round,
   c.in_ok-pull_at.ensures.settings ∙ c.loop-moment.invariant.1,
   c.in_ok-pull_at.ensures.log_keys ∙ c.loop-moment.invariant.2,
-  c.in_ok-pull_at.ensures.calm,
+  c.in_ok-pull_at.ensures.faults_recorded,
 )
 
 pub returns : goal.returns

@@ -20,5 +20,5 @@ returns-clause-causes g c = (c.pulled.ensures.run.0, pull_cause (generated_meani
 pub returns-clause-fault : goal.returns-clause-fault
 returns-clause-fault g c = pull_fault (generated_meaning c.args.layers) generated_context generated_reference Anonymous generated_types c.pulled.result c.pulled.ensures.run.1
 
-pub returns-clause-no_sink : goal.returns-clause-no_sink
-returns-clause-no_sink g c = pull_no_sink (generated_meaning c.args.layers) generated_context generated_reference Anonymous generated_types c.pulled.result c.pulled.ensures.run.1
+pub returns-clause-no_sink_fault : goal.returns-clause-no_sink_fault
+returns-clause-no_sink_fault g c = pull_no_sink (generated_meaning c.args.layers) generated_context generated_reference Anonymous generated_types c.pulled.result c.pulled.ensures.run.1

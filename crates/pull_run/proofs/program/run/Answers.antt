@@ -3,8 +3,8 @@ use Rattle.pull_run.proofs.CaseStatuses.{says_complete}
 use Rattle.pull_run.proofs.Statuses.{says_unread, says_long, says_past, says_usage}
 use Rattle.pull_run.proofs.program.run.Goals as goal
 
-pub returns-clause-says : goal.returns-clause-says
-returns-clause-says g c = (c.serve_command.result, c.code.ensures, rw c.command_of.ensures at c.serve_command.ensures)
+pub returns-clause-status : goal.returns-clause-status
+returns-clause-status g c = (c.serve_command.result, c.code.ensures, rw c.command_of.ensures at c.serve_command.ensures)
 
 pub returns-clause-usage : goal.returns-clause-usage
 returns-clause-usage g c =

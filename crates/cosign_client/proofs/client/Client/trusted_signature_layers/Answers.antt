@@ -50,11 +50,11 @@ returns-in_err-auth-clause-fault g c = search_fault (trusts (g.V.SignatureVerifi
 pub returns-clause-fault : goal.returns-clause-fault
 returns-clause-fault g c = search_fault (trusts (g.V.SignatureVerifier.valid c.args.verifier.now) (g.O.Offline.vouched c.args.judge.now) c.args.self.now) _ _ (registry_auth c.args.auth.now) c.search.result (rw (c.reference.ensures.inner, c.in_ok-auth.ensures) at ((c.search.ensures (client_state c.args.self.now).settings).made refl).1)
 
-pub returns-in_err-auth-clause-no_sink : goal.returns-in_err-auth-clause-no_sink
-returns-in_err-auth-clause-no_sink g c = search_no_sink (trusts (g.V.SignatureVerifier.valid c.args.verifier.now) (g.O.Offline.vouched c.args.judge.now) c.args.self.now) (within (client_state c.args.self.now).settings c.args.moment) (reference_in c.args.source_image.now) (registry_auth c.args.auth.now) {old = g.T.Transport.state c.args.transport.now} {new = g.T.Transport.state c.args.transport.now} c.from_residual.result (meets_wanting {k = (client_state c.args.self.now).kept} {link = g.T.Transport.state c.args.transport.now} _ refl c.from_residual.ensures.1)
+pub returns-in_err-auth-clause-no_sink_fault : goal.returns-in_err-auth-clause-no_sink_fault
+returns-in_err-auth-clause-no_sink_fault g c = search_no_sink (trusts (g.V.SignatureVerifier.valid c.args.verifier.now) (g.O.Offline.vouched c.args.judge.now) c.args.self.now) (within (client_state c.args.self.now).settings c.args.moment) (reference_in c.args.source_image.now) (registry_auth c.args.auth.now) {old = g.T.Transport.state c.args.transport.now} {new = g.T.Transport.state c.args.transport.now} c.from_residual.result (meets_wanting {k = (client_state c.args.self.now).kept} {link = g.T.Transport.state c.args.transport.now} _ refl c.from_residual.ensures.1)
 
-pub returns-clause-no_sink : goal.returns-clause-no_sink
-returns-clause-no_sink g c = search_no_sink (trusts (g.V.SignatureVerifier.valid c.args.verifier.now) (g.O.Offline.vouched c.args.judge.now) c.args.self.now) _ _ (registry_auth c.args.auth.now) c.search.result (rw (c.reference.ensures.inner, c.in_ok-auth.ensures) at ((c.search.ensures (client_state c.args.self.now).settings).made refl).1)
+pub returns-clause-no_sink_fault : goal.returns-clause-no_sink_fault
+returns-clause-no_sink_fault g c = search_no_sink (trusts (g.V.SignatureVerifier.valid c.args.verifier.now) (g.O.Offline.vouched c.args.judge.now) c.args.self.now) _ _ (registry_auth c.args.auth.now) c.search.result (rw (c.reference.ensures.inner, c.in_ok-auth.ensures) at ((c.search.ensures (client_state c.args.self.now).settings).made refl).1)
 
 pub returns-in_err-auth-clause-confined : goal.returns-in_err-auth-clause-confined
 returns-in_err-auth-clause-confined g c = search_confined (trusts (g.V.SignatureVerifier.valid c.args.verifier.now) (g.O.Offline.vouched c.args.judge.now) c.args.self.now) (within (client_state c.args.self.now).settings c.args.moment) (reference_in c.args.source_image.now) (registry_auth c.args.auth.now) c.from_residual.result c.args.source_image.now.direct (meets_wanting {k = (client_state c.args.self.now).kept} {link = g.T.Transport.state c.args.transport.now} _ refl c.from_residual.ensures.1)

@@ -4,5 +4,5 @@ use Rattle.live_link.proofs.transport.StreamTransport.finish.Goals as goal
 
 pub returns : goal.returns
 returns g c = record {
-  spoke = λ taken left d told. ends g.S.Source.state g.K.Sink.state c.args.self.began.items c.args.self.source c.args.self.sink c.args.self.stage (exchanges_of c.args.self) d taken left c.args.self.spoken told;
+  transcript = λ taken left d told. ends g.S.Source.state g.K.Sink.state c.args.self.began.items c.args.self.source c.args.self.sink c.args.self.stage (exchanges_of c.args.self) d taken left c.args.self.spoken told;
 }

@@ -14,8 +14,8 @@ returns-clause-causes g c = digest_reason (within c.args.self.now.settings c.arg
 pub returns-clause-fault : goal.returns-clause-fault
 returns-clause-fault g c = digest_fault (within c.args.self.now.settings c.args.moment) c.args.image.now c.args.auth.now (rw c.lend-memory.ensures at c.fetch_manifest_digest-answer.ensures)
 
-pub returns-clause-no_url : goal.returns-clause-no_url
-returns-clause-no_url g c = λ none. met_only _ (digest_url (within c.args.self.now.settings c.args.moment) c.args.image.now c.args.auth.now none) (rw c.lend-memory.ensures at c.fetch_manifest_digest-answer.ensures)
+pub returns-clause-invalid_url : goal.returns-clause-invalid_url
+returns-clause-invalid_url g c = λ none. met_only _ (digest_url (within c.args.self.now.settings c.args.moment) c.args.image.now c.args.auth.now none) (rw c.lend-memory.ensures at c.fetch_manifest_digest-answer.ensures)
 
 pub returns-clause-bad_header : goal.returns-clause-bad_header
 returns-clause-bad_header g c = λ bad. met_early (digest_bad (within c.args.self.now.settings c.args.moment) c.args.image.now c.args.auth.now bad) (rw c.lend-memory.ensures at c.fetch_manifest_digest-answer.ensures)

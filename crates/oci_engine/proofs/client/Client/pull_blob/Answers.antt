@@ -18,8 +18,8 @@ returns-clause-fault g c = spilled_fault (within c.args.self.now.settings c.args
 pub returns-clause-sink : goal.returns-clause-sink
 returns-clause-sink g c = c.pull_blob-answer.ensures.fault
 
-pub returns-clause-no_url : goal.returns-clause-no_url
-returns-clause-no_url g c = λ none. spilled_only _ (blob_url IntoSink (within c.args.self.now.settings c.args.moment) c.args.image.now _ none) (rw (c.as_layer_descriptor-layer.ensures, c.lend-memory.ensures) at c.pull_blob-answer.ensures)
+pub returns-clause-invalid_url : goal.returns-clause-invalid_url
+returns-clause-invalid_url g c = λ none. spilled_only _ (blob_url IntoSink (within c.args.self.now.settings c.args.moment) c.args.image.now _ none) (rw (c.as_layer_descriptor-layer.ensures, c.lend-memory.ensures) at c.pull_blob-answer.ensures)
 
 pub returns-clause-bad_header : goal.returns-clause-bad_header
 returns-clause-bad_header g c = λ bad. spilled_early (blob_bad IntoSink (within c.args.self.now.settings c.args.moment) c.args.image.now _ bad) (rw (c.as_layer_descriptor-layer.ensures, c.lend-memory.ensures) at c.pull_blob-answer.ensures)
@@ -27,5 +27,5 @@ returns-clause-bad_header g c = λ bad. spilled_early (blob_bad IntoSink (within
 pub returns-clause-confined : goal.returns-clause-confined
 returns-clause-confined g c = spilled_confined (within c.args.self.now.settings c.args.moment) c.args.image.now _ (rw (c.as_layer_descriptor-layer.ensures, c.lend-memory.ensures) at c.pull_blob-answer.ensures)
 
-pub returns-clause-spills : goal.returns-clause-spills
-returns-clause-spills g c = rw (c.as_layer_descriptor-layer.ensures, c.lend-memory.ensures) at c.pull_blob-answer.ensures
+pub returns-clause-run : goal.returns-clause-run
+returns-clause-run g c = rw (c.as_layer_descriptor-layer.ensures, c.lend-memory.ensures) at c.pull_blob-answer.ensures

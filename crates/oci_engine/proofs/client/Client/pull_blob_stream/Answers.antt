@@ -12,8 +12,8 @@ returns-clause-causes g c = stream_reason (within c.args.self.now.settings c.arg
 pub returns-clause-fault : goal.returns-clause-fault
 returns-clause-fault g c = stream_fault (within c.args.self.now.settings c.args.moment) c.args.image.now _ _ (rw (c.as_layer_descriptor-layer.ensures, c.lend-memory.ensures) at c.pull_blob_stream-answer.ensures.run)
 
-pub returns-clause-no_url : goal.returns-clause-no_url
-returns-clause-no_url g c = λ none. stream_no_url (within c.args.self.now.settings c.args.moment) c.args.image.now _ _ none (rw (c.as_layer_descriptor-layer.ensures, c.lend-memory.ensures) at c.pull_blob_stream-answer.ensures.run)
+pub returns-clause-invalid_url : goal.returns-clause-invalid_url
+returns-clause-invalid_url g c = λ none. stream_no_url (within c.args.self.now.settings c.args.moment) c.args.image.now _ _ none (rw (c.as_layer_descriptor-layer.ensures, c.lend-memory.ensures) at c.pull_blob_stream-answer.ensures.run)
 
 pub returns-clause-bad_header : goal.returns-clause-bad_header
 returns-clause-bad_header g c = λ bad. stream_bad (within c.args.self.now.settings c.args.moment) c.args.image.now _ _ bad (rw (c.as_layer_descriptor-layer.ensures, c.lend-memory.ensures) at c.pull_blob_stream-answer.ensures.run)

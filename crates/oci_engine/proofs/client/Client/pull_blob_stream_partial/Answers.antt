@@ -15,8 +15,8 @@ returns-clause-fault g c = partial_fault (within c.args.self.now.settings c.args
 pub returns-clause-past : goal.returns-clause-past
 returns-clause-past g c = λ past. partial_past (within c.args.self.now.settings c.args.moment) c.args.image.now _ _ _ past (rw (c.as_layer_descriptor-layer.ensures, c.lend-memory.ensures) at c.pull_blob_stream_partial-answer.ensures.run)
 
-pub returns-clause-no_url : goal.returns-clause-no_url
-returns-clause-no_url g c = λ fits none. partial_no_url (within c.args.self.now.settings c.args.moment) c.args.image.now _ _ _ fits none (rw (c.as_layer_descriptor-layer.ensures, c.lend-memory.ensures) at c.pull_blob_stream_partial-answer.ensures.run)
+pub returns-clause-invalid_url : goal.returns-clause-invalid_url
+returns-clause-invalid_url g c = λ fits none. partial_no_url (within c.args.self.now.settings c.args.moment) c.args.image.now _ _ _ fits none (rw (c.as_layer_descriptor-layer.ensures, c.lend-memory.ensures) at c.pull_blob_stream_partial-answer.ensures.run)
 
 pub returns-clause-bad_header : goal.returns-clause-bad_header
 returns-clause-bad_header g c = λ fits bad. partial_bad (within c.args.self.now.settings c.args.moment) c.args.image.now _ _ _ fits bad (rw (c.as_layer_descriptor-layer.ensures, c.lend-memory.ensures) at c.pull_blob_stream_partial-answer.ensures.run)

@@ -10,8 +10,8 @@ returns-clause-causes g c = manifest_reason (within c.args.self.now.settings c.a
 pub returns-clause-fault : goal.returns-clause-fault
 returns-clause-fault g c = manifest_fault (within c.args.self.now.settings c.args.moment) c.args.image.now c.args.auth.now (rw c.lend-memory.ensures at c.pull_manifest-answer.ensures)
 
-pub returns-clause-no_url : goal.returns-clause-no_url
-returns-clause-no_url g c = λ none. met_only _ (manifest_url (within c.args.self.now.settings c.args.moment) c.args.image.now c.args.auth.now none) (rw c.lend-memory.ensures at c.pull_manifest-answer.ensures)
+pub returns-clause-invalid_url : goal.returns-clause-invalid_url
+returns-clause-invalid_url g c = λ none. met_only _ (manifest_url (within c.args.self.now.settings c.args.moment) c.args.image.now c.args.auth.now none) (rw c.lend-memory.ensures at c.pull_manifest-answer.ensures)
 
 pub returns-clause-bad_header : goal.returns-clause-bad_header
 returns-clause-bad_header g c = λ bad. met_early (manifest_bad (within c.args.self.now.settings c.args.moment) c.args.image.now c.args.auth.now bad) (rw c.lend-memory.ensures at c.pull_manifest-answer.ensures)

@@ -25,11 +25,11 @@ returns-in_err-found-clause-causes g c = listed_reason (within c.args.self.now.s
 pub returns-in_err-found-clause-fault : goal.returns-in_err-found-clause-fault
 returns-in_err-found-clause-fault g c = raw_fault (within c.args.self.now.settings c.args.moment) c.args.image.now c.args.auth.now _ (passed_on (rw c.lend-memory.ensures at c.in_err-found.ensures) c.from_residual-in_err-found.ensures.1)
 
-pub returns-clause-no_url : goal.returns-clause-no_url
-returns-clause-no_url g c = λ none. met_only _ (raw_url (within c.args.self.now.settings c.args.moment) c.args.image.now c.args.auth.now _ none) (rw c.lend-memory.ensures at c.in_ok-found.ensures)
+pub returns-clause-invalid_url : goal.returns-clause-invalid_url
+returns-clause-invalid_url g c = λ none. met_only _ (raw_url (within c.args.self.now.settings c.args.moment) c.args.image.now c.args.auth.now _ none) (rw c.lend-memory.ensures at c.in_ok-found.ensures)
 
-pub returns-in_err-found-clause-no_url : goal.returns-in_err-found-clause-no_url
-returns-in_err-found-clause-no_url g c = λ none. met_only _ (raw_url (within c.args.self.now.settings c.args.moment) c.args.image.now c.args.auth.now _ none) (passed_on (rw c.lend-memory.ensures at c.in_err-found.ensures) c.from_residual-in_err-found.ensures.1)
+pub returns-in_err-found-clause-invalid_url : goal.returns-in_err-found-clause-invalid_url
+returns-in_err-found-clause-invalid_url g c = λ none. met_only _ (raw_url (within c.args.self.now.settings c.args.moment) c.args.image.now c.args.auth.now _ none) (passed_on (rw c.lend-memory.ensures at c.in_err-found.ensures) c.from_residual-in_err-found.ensures.1)
 
 pub returns-clause-bad_header : goal.returns-clause-bad_header
 returns-clause-bad_header g c = λ bad. met_early (raw_bad (within c.args.self.now.settings c.args.moment) c.args.image.now c.args.auth.now _ bad) (listed_met (within c.args.self.now.settings c.args.moment) c.args.image.now c.args.auth.now _ _ (c.as_str.ensures ∙ c.in_ok-types.ensures) (rw c.lend-memory.ensures at c.in_ok-found.ensures))

@@ -19,8 +19,8 @@ returns-clause-no_digest g c = λ none. met_only _ (no_digest (within c.args.sel
 pub returns-clause-confined : goal.returns-clause-confined
 returns-clause-confined g c = referrers_confined (within c.args.self.now.settings c.args.moment) c.args.image.now (option_copied c.args.artifact_type) (rw c.lend-memory.ensures at c.pull_referrers-answer.ensures)
 
-pub returns-clause-no_url : goal.returns-clause-no_url
-returns-clause-no_url g c = of_digest _ (digest_of c.args.image.now) (λ digest is none. met_only _ (referrers_no_url (within c.args.self.now.settings c.args.moment) c.args.image.now (option_copied c.args.artifact_type) digest is none) (rw c.lend-memory.ensures at c.pull_referrers-answer.ensures))
+pub returns-clause-invalid_url : goal.returns-clause-invalid_url
+returns-clause-invalid_url g c = of_digest _ (digest_of c.args.image.now) (λ digest is none. met_only _ (referrers_no_url (within c.args.self.now.settings c.args.moment) c.args.image.now (option_copied c.args.artifact_type) digest is none) (rw c.lend-memory.ensures at c.pull_referrers-answer.ensures))
 
 pub returns-clause-bad_header : goal.returns-clause-bad_header
 returns-clause-bad_header g c = of_digest _ (digest_of c.args.image.now) (λ digest is bad. met_early (referrers_bad (within c.args.self.now.settings c.args.moment) c.args.image.now (option_copied c.args.artifact_type) digest is bad) (rw c.lend-memory.ensures at c.pull_referrers-answer.ensures))

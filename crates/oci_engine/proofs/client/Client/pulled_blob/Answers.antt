@@ -21,8 +21,8 @@ returns-clause-fault g c = blob_fault IntoMemory (within c.args.self.now.setting
 pub returns-clause-last : goal.returns-clause-last
 returns-clause-last g c = blob_last IntoMemory (within c.args.self.now.settings c.args.moment) c.args.image.now _ (rw (c.as_layer_descriptor-layer.ensures, c.lend-memory.ensures) at c.pulled_blob-answer.ensures)
 
-pub returns-clause-no_url : goal.returns-clause-no_url
-returns-clause-no_url g c = λ none. met_only _ (blob_url IntoMemory (within c.args.self.now.settings c.args.moment) c.args.image.now _ none) (rw (c.as_layer_descriptor-layer.ensures, c.lend-memory.ensures) at c.pulled_blob-answer.ensures)
+pub returns-clause-invalid_url : goal.returns-clause-invalid_url
+returns-clause-invalid_url g c = λ none. met_only _ (blob_url IntoMemory (within c.args.self.now.settings c.args.moment) c.args.image.now _ none) (rw (c.as_layer_descriptor-layer.ensures, c.lend-memory.ensures) at c.pulled_blob-answer.ensures)
 
 pub returns-clause-bad_header : goal.returns-clause-bad_header
 returns-clause-bad_header g c = λ bad. met_early (blob_bad IntoMemory (within c.args.self.now.settings c.args.moment) c.args.image.now _ bad) (rw (c.as_layer_descriptor-layer.ensures, c.lend-memory.ensures) at c.pulled_blob-answer.ensures)

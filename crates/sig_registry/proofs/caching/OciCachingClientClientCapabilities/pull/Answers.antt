@@ -15,7 +15,7 @@ returns-in_err-found g c =
     record {
       run = f.run;
       fault = memory_holds_none _ _ _ c.from_residual.ensures.1;
-      no_sink = memory_holds_none _ _ _ c.from_residual.ensures.1;
+      no_sink_fault = memory_holds_none _ _ _ c.from_residual.ensures.1;
       confined = stays_same _ _ _ _ _ _;
       refused = f.refused;
       recalled = f.recalled;
@@ -30,7 +30,7 @@ returns-in_default g c =
     record {
       run = f.run;
       fault = c.image_made.ensures.fault;
-      no_sink = c.image_made.ensures.no_sink;
+      no_sink_fault = c.image_made.ensures.no_sink_fault;
       confined = c.image_made.ensures.confined;
       refused = f.refused;
       recalled = f.recalled;
@@ -45,7 +45,7 @@ returns-in_err-known g c =
     record {
       run = f.run;
       fault = memory_holds_none _ _ _ c.from_residual-in_err-known.ensures.1;
-      no_sink = memory_holds_none _ _ _ c.from_residual-in_err-known.ensures.1;
+      no_sink_fault = memory_holds_none _ _ _ c.from_residual-in_err-known.ensures.1;
       confined = stays_same _ _ _ _ _ _;
       refused = f.refused;
       recalled = f.recalled;
@@ -60,7 +60,7 @@ returns-in-Some-known g c =
     record {
       run = f.run;
       fault = λ h. absurd h;
-      no_sink = λ h. absurd h;
+      no_sink_fault = λ h. absurd h;
       confined = stays_same _ _ _ _ _ _;
       refused = f.refused;
       recalled = f.recalled;
@@ -75,7 +75,7 @@ returns-in_err-data g c =
     record {
       run = f.run;
       fault = same_held _ _ _ _ c.from_residual-in_err-data.ensures.1 c.in_err-data.ensures.fault;
-      no_sink = same_held _ _ _ _ c.from_residual-in_err-data.ensures.1 c.in_err-data.ensures.no_sink;
+      no_sink_fault = same_held _ _ _ _ c.from_residual-in_err-data.ensures.1 c.in_err-data.ensures.no_sink_fault;
       confined = c.in_err-data.ensures.confined;
       refused = f.refused;
       recalled = f.recalled;
@@ -90,7 +90,7 @@ returns-in_err-keep_image g c =
     record {
       run = f.run;
       fault = memory_holds_none _ _ _ c.from_residual-in_err-keep_image.ensures.1;
-      no_sink = memory_holds_none _ _ _ c.from_residual-in_err-keep_image.ensures.1;
+      no_sink_fault = memory_holds_none _ _ _ c.from_residual-in_err-keep_image.ensures.1;
       confined = c.in_ok-data.ensures.confined;
       refused = f.refused;
       recalled = f.recalled;
@@ -105,7 +105,7 @@ returns g c =
     record {
       run = f.run;
       fault = λ h. absurd h;
-      no_sink = λ h. absurd h;
+      no_sink_fault = λ h. absurd h;
       confined = c.in_ok-data.ensures.confined;
       refused = f.refused;
       recalled = f.recalled;

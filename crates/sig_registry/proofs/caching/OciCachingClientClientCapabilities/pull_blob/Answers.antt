@@ -8,7 +8,7 @@ unfolding blob_call
 returns g c = record {
   run = λ s. never_kept (c.blob_made.ensures.run s);
   fault = c.blob_made.ensures.fault;
-  no_sink = c.blob_made.ensures.no_sink;
+  no_sink_fault = c.blob_made.ensures.no_sink_fault;
   confined = c.blob_made.ensures.confined;
   answers = refl;
 }

@@ -15,7 +15,7 @@ returns-in_err-found g c =
     record {
       run = f.run;
       fault = memory_holds_none _ _ _ c.from_residual.ensures.1;
-      no_sink = memory_holds_none _ _ _ c.from_residual.ensures.1;
+      no_sink_fault = memory_holds_none _ _ _ c.from_residual.ensures.1;
       confined = stays_same _ _ _ _ _ _;
       refused = f.refused;
       recalled = f.recalled;
@@ -29,7 +29,7 @@ returns-in_default g c =
     record {
       run = f.run;
       fault = c.manifest_made.ensures.fault;
-      no_sink = c.manifest_made.ensures.no_sink;
+      no_sink_fault = c.manifest_made.ensures.no_sink_fault;
       confined = c.manifest_made.ensures.confined;
       refused = f.refused;
       recalled = f.recalled;
@@ -43,7 +43,7 @@ returns-in_err-known g c =
     record {
       run = f.run;
       fault = memory_holds_none _ _ _ c.from_residual-in_err-known.ensures.1;
-      no_sink = memory_holds_none _ _ _ c.from_residual-in_err-known.ensures.1;
+      no_sink_fault = memory_holds_none _ _ _ c.from_residual-in_err-known.ensures.1;
       confined = stays_same _ _ _ _ _ _;
       refused = f.refused;
       recalled = f.recalled;
@@ -57,7 +57,7 @@ returns-in-Some-known g c =
     record {
       run = f.run;
       fault = λ h. absurd h;
-      no_sink = λ h. absurd h;
+      no_sink_fault = λ h. absurd h;
       confined = stays_same _ _ _ _ _ _;
       refused = f.refused;
       recalled = f.recalled;
@@ -71,7 +71,7 @@ returns-in_err-manifest g c =
     record {
       run = f.run;
       fault = same_held _ _ _ _ c.from_residual-in_err-manifest.ensures.1 c.in_err-manifest.ensures.fault;
-      no_sink = same_held _ _ _ _ c.from_residual-in_err-manifest.ensures.1 c.in_err-manifest.ensures.no_sink;
+      no_sink_fault = same_held _ _ _ _ c.from_residual-in_err-manifest.ensures.1 c.in_err-manifest.ensures.no_sink_fault;
       confined = c.in_err-manifest.ensures.confined;
       refused = f.refused;
       recalled = f.recalled;
@@ -85,7 +85,7 @@ returns-in_err-keep_manifest g c =
     record {
       run = f.run;
       fault = memory_holds_none _ _ _ c.from_residual-in_err-keep_manifest.ensures.1;
-      no_sink = memory_holds_none _ _ _ c.from_residual-in_err-keep_manifest.ensures.1;
+      no_sink_fault = memory_holds_none _ _ _ c.from_residual-in_err-keep_manifest.ensures.1;
       confined = c.in_ok-manifest.ensures.confined;
       refused = f.refused;
       recalled = f.recalled;
@@ -99,7 +99,7 @@ returns g c =
     record {
       run = f.run;
       fault = λ h. absurd h;
-      no_sink = λ h. absurd h;
+      no_sink_fault = λ h. absurd h;
       confined = c.in_ok-manifest.ensures.confined;
       refused = f.refused;
       recalled = f.recalled;

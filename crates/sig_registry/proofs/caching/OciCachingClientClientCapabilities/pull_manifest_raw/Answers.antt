@@ -8,7 +8,7 @@ unfolding document_call
 returns g c = record {
   run = λ s. never_kept (c.document_made.ensures.run s);
   fault = c.document_made.ensures.fault;
-  no_sink = c.document_made.ensures.no_sink;
+  no_sink_fault = c.document_made.ensures.no_sink_fault;
   confined = c.document_made.ensures.confined;
   answers = refl;
 }

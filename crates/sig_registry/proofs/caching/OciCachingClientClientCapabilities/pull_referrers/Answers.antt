@@ -16,7 +16,7 @@ returns-in_err-found g c =
     record {
       run = f.run;
       fault = memory_holds_none _ _ _ c.from_residual.ensures.1;
-      no_sink = memory_holds_none _ _ _ c.from_residual.ensures.1;
+      no_sink_fault = memory_holds_none _ _ _ c.from_residual.ensures.1;
       confined = tag_same _ _ _ _ _ _;
       refused = f.refused;
       recalled = f.recalled;
@@ -30,7 +30,7 @@ returns-in_default g c =
     record {
       run = f.run;
       fault = c.referrers_made.ensures.fault;
-      no_sink = c.referrers_made.ensures.no_sink;
+      no_sink_fault = c.referrers_made.ensures.no_sink_fault;
       confined = c.referrers_made.ensures.confined;
       refused = f.refused;
       recalled = f.recalled;
@@ -44,7 +44,7 @@ returns-in_err-known g c =
     record {
       run = f.run;
       fault = memory_holds_none _ _ _ c.from_residual-in_err-known.ensures.1;
-      no_sink = memory_holds_none _ _ _ c.from_residual-in_err-known.ensures.1;
+      no_sink_fault = memory_holds_none _ _ _ c.from_residual-in_err-known.ensures.1;
       confined = tag_same _ _ _ _ _ _;
       refused = f.refused;
       recalled = f.recalled;
@@ -58,7 +58,7 @@ returns-in-Some-known g c =
     record {
       run = f.run;
       fault = λ h. absurd h;
-      no_sink = λ h. absurd h;
+      no_sink_fault = λ h. absurd h;
       confined = tag_same _ _ _ _ _ _;
       refused = f.refused;
       recalled = f.recalled;
@@ -72,7 +72,7 @@ returns-in_err-index g c =
     record {
       run = f.run;
       fault = same_held _ _ _ _ c.from_residual-in_err-index.ensures.1 c.in_err-index.ensures.fault;
-      no_sink = same_held _ _ _ _ c.from_residual-in_err-index.ensures.1 c.in_err-index.ensures.no_sink;
+      no_sink_fault = same_held _ _ _ _ c.from_residual-in_err-index.ensures.1 c.in_err-index.ensures.no_sink_fault;
       confined = c.in_err-index.ensures.confined;
       refused = f.refused;
       recalled = f.recalled;
@@ -86,7 +86,7 @@ returns-in_err-keep_referrers g c =
     record {
       run = f.run;
       fault = memory_holds_none _ _ _ c.from_residual-in_err-keep_referrers.ensures.1;
-      no_sink = memory_holds_none _ _ _ c.from_residual-in_err-keep_referrers.ensures.1;
+      no_sink_fault = memory_holds_none _ _ _ c.from_residual-in_err-keep_referrers.ensures.1;
       confined = c.in_ok-index.ensures.confined;
       refused = f.refused;
       recalled = f.recalled;
@@ -100,7 +100,7 @@ returns g c =
     record {
       run = f.run;
       fault = λ h. absurd h;
-      no_sink = λ h. absurd h;
+      no_sink_fault = λ h. absurd h;
       confined = c.in_ok-index.ensures.confined;
       refused = f.refused;
       recalled = f.recalled;

@@ -12,7 +12,7 @@ returns g c =
     record {
       run = f.run;
       fault = c.digest_made.ensures.fault;
-      no_sink = c.digest_made.ensures.no_sink;
+      no_sink_fault = c.digest_made.ensures.no_sink_fault;
       confined = c.digest_made.ensures.confined;
       refused = f.refused;
       recalled = f.recalled;
