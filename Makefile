@@ -4,8 +4,7 @@
 SOURCES := $(wildcard crates/*/src/*.rt crates/*/specs/*.antt) $(shell find crates/*/proofs -name '*.antt')
 PROGRAM := crates/pull_program/out/pull_program
 CORE := crates/roksnaep_core/out/roksnaep_core
-DOCUMENTS := crates/docs_bench/out/docs_bench
-STREAM := crates/stream_bench/out/stream_bench
+TIMED := crates/timed_calls/out/timed_calls
 
 # Proves every crate, tries the wrong bodies that must be refused, runs the tests, the stored runs and the recorded cases.
 test:
@@ -33,11 +32,8 @@ core: $(CORE)
 $(CORE): $(SOURCES)
 	cd crates/roksnaep_core && rt run < stdin > /dev/null
 
-$(DOCUMENTS): $(SOURCES)
-	cd crates/docs_bench && rt run -- documents < stdin > /dev/null
-
-$(STREAM): $(SOURCES)
-	cd crates/stream_bench && xargs rt run -- < args > /dev/null
+$(TIMED): $(SOURCES)
+	cd crates/timed_calls && xargs rt run -- < args > /dev/null
 
 # Pulls from a real registry on this machine, and sees what is refused: it needs docker-registry, openssl and skopeo.
 live: core host
@@ -64,7 +60,7 @@ wrong-bodies:
 	tests/wrong-bodies $(CRATES)
 
 # Measures ratios within one run.
-bench: program $(DOCUMENTS) $(STREAM)
+bench: program $(TIMED)
 	python3 bench/run.py
 	python3 bench/canon.py
 	python3 bench/documents.py

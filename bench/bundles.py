@@ -12,7 +12,7 @@ import tempfile
 from run import measured
 
 HERE = os.path.dirname(os.path.abspath(__file__))
-PROGRAM = os.path.join(HERE, "../crates/docs_bench/out/docs_bench")
+PROGRAM = os.path.join(HERE, "../crates/timed_calls/out/timed_calls")
 SOURCE = "b94d27b9934d3e08a52e52d7da7dabfac484efe37a5380ee9088f7ace2efcde9"
 BYTES = 4 << 20
 

@@ -12,7 +12,7 @@ import tempfile
 
 HERE = os.path.dirname(os.path.abspath(__file__))
 PROGRAM = os.path.join(HERE, "../crates/pull_program/out/pull_program")
-PLAIN = os.path.join(HERE, "../crates/docs_bench/out/docs_bench")
+PLAIN = os.path.join(HERE, "../crates/timed_calls/out/timed_calls")
 MEGABYTES = 32
 RUNS = 3
 NESTED = 120

@@ -11,7 +11,7 @@ import tempfile
 import time
 
 HERE = os.path.dirname(os.path.abspath(__file__))
-PROGRAM = os.path.join(HERE, "../crates/docs_bench/out/docs_bench")
+PROGRAM = os.path.join(HERE, "../crates/timed_calls/out/timed_calls")
 LAYERS = 10000
 RUNS = 9
 

@@ -8,7 +8,7 @@ import tempfile
 from run import measured
 
 HERE = os.path.dirname(os.path.abspath(__file__))
-PROGRAM = os.path.join(HERE, "../crates/stream_bench/out/stream_bench")
+PROGRAM = os.path.join(HERE, "../crates/timed_calls/out/timed_calls")
 
 
 def timed(word, count):

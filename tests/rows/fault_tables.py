@@ -14,6 +14,13 @@ NAMED = make.digest(make.IMAGE)
 APP = f"{make.REGISTRY}/app"
 TAG = f"{APP}:{make.TAG}"
 WHOLE = 21
+# The pull of the generated image where nothing answers: the probe's fault is passed over, and the digest refuses the pull.
+UNANSWERED = [
+    "moment 100",
+    "GET http://localhost:5000/v2/",
+    "HEAD http://localhost:5000/v2/gen/manifests/v1",
+    'refused RegistryFetchManifestError "localhost:5000/gen:v1" TransportFault',
+]
 # The requests whose bodies are read, counted from 1, and those of them whose body is empty: a HEAD, and the lists of
 # referrers that the shelf does not have.
 BODIES = [2, 4, 6, 8, 10, 13, 15, 17, 19, 21]
@@ -57,6 +64,7 @@ def main():
     calls = [line for line in BODIES for _ in range(1 if line in EMPTY else 2)]
     for number, line in enumerate(calls + [0]):
         lines += lines_of("piece", number, line)
+    lines += UNANSWERED
     case = make.case(None, [make.payload()], shelf=make.base_shelf())
     for name, text in [("stdin", case), ("stdout", "".join(f"{line}\n" for line in lines))]:
         with open(os.path.join(CRATE, name), "w", encoding="utf-8") as file:

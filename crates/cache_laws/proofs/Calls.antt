@@ -14,12 +14,14 @@ use Rattle.oci_protocol.proofs.Parts.{Parts, Runs-parts, Runs-done}
 use Rattle.engine_terms.specs.declared.settings.Settings.{Settings}
 use Rattle.engine_terms.specs.Contexts.{within}
 use Rattle.engine_requests.specs.Sources.{Layer}
-use Rattle.sig_calls.specs.declared.error.SigstoreError.{SigstoreError}
-use Rattle.sig_calls.specs.Error.{is_memory}
-use Rattle.sig_calls.specs.Clients.{Kept, Plain, Row, Client, ClientMeets}
-use Rattle.sig_calls.specs.Caching.{Cache, known, keeping, known_or, recalled, cached}
-use Rattle.sig_calls.specs.Calls.{digests, manifests, images, referrers, digest_made, manifest_made, image_made, referrers_made, document_made, blob_made, digest_call, manifest_call, image_call, referrers_call, document_call, blob_call}
-use Rattle.sig_calls.specs.Log.{Call, DigestCall, ManifestCall, ImageCall, ReferrersCall, image_called, kind_called, key_called, answering, answered, call_made, LoggedCall, place_of, IsRun, IsBacked}
+use Rattle.registry_calls.specs.declared.error.SigstoreError.{SigstoreError}
+use Rattle.registry_calls.specs.Error.{is_memory}
+use Rattle.registry_calls.specs.Clients.{Kept, Plain, Row, Client, ClientMeets}
+use Rattle.registry_calls.specs.Caching.{keeping, known_or, recalled, cached}
+use Rattle.registry_cache.specs.Caching.{Cache, known}
+use Rattle.registry_calls.specs.Calls.{digest_made, manifest_made, image_made, referrers_made, document_made, blob_made, digest_call, manifest_call, image_call, referrers_call, document_call, blob_call}
+use Rattle.registry_cache.specs.KeptCalls.{digests, manifests, images, referrers}
+use Rattle.registry_calls.specs.Log.{Call, DigestCall, ManifestCall, ImageCall, ReferrersCall, image_called, kind_called, key_called, answering, answered, call_made, LoggedCall, place_of, IsRun, IsBacked}
 use Rattle.sig_registry.proofs.Logs.{IsCache, logged}
 use Rattle.sig_registry.proofs.Facts.{digests_kept, manifests_kept, images_kept, referrers_kept}
 use Rattle.cache_laws.specs.Growth.{ExtendsLog, PreservesLog}

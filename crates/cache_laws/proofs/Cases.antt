@@ -1,16 +1,16 @@
 -- The pulls of a case at its moments.
 use Rattle.std.proofs.Common.{ℕ, Bool, true, false, List, [], ◌∷◌, ◌++◌, ap, subst, append_assoc}
 use Rattle.engine_terms.specs.declared.settings.Settings.{Settings}
-use Rattle.sig_calls.specs.Clients.{Kept}
-use Rattle.sig_calls.specs.Log.{LoggedCall, IsRun, IsBacked}
+use Rattle.registry_calls.specs.Clients.{Kept}
+use Rattle.registry_calls.specs.Log.{LoggedCall, IsRun, IsBacked}
 use Rattle.cosign_chain.specs.declared.image.VerifiedImage.{VerifiedImage}
 use Rattle.cosign_rows.specs.Verified.{Whole}
-use Rattle.pull_case.specs.Policy.{meaning_of}
-use Rattle.pull_case.specs.declared.case.Case.{Case}
-use Rattle.pull_case.specs.Registry.{answering_by}
-use Rattle.pull_cases.proofs.PullsInTurn.{Turns, turns}
-use Rattle.pull_cases.specs.Pulls.{PullRecord, Pulled, settings_of, row_of}
-use Rattle.pull_setup.specs.Clients.{fresh}
+use Rattle.recorded_case.specs.Policy.{meaning_of}
+use Rattle.recorded_case.specs.declared.case.Case.{Case}
+use Rattle.recorded_case.specs.Registry.{answering_by}
+use Rattle.pulled_cases.proofs.PullsInTurn.{Turns, turns}
+use Rattle.pulled_cases.specs.Pulls.{PullRecord, Pulled, settings_of, row_of}
+use Rattle.cosign_client.specs.Clients.{fresh}
 use Rattle.cache_laws.specs.Growth.{ExtendsLog, PreservesLog}
 use Rattle.cache_laws.proofs.PartsInTurn.{as_it_was}
 use Rattle.cache_laws.proofs.Pulls.{pull_grows}

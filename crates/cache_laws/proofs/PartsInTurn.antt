@@ -8,9 +8,9 @@ use Rattle.oci_protocol.specs.Runs.{Runs}
 use Rattle.oci_protocol.proofs.WiderMemory.{Runs-unlifted}
 use Rattle.oci_protocol.proofs.Parts.{Runs-parts, Runs-done}
 use Rattle.engine_terms.specs.declared.settings.Settings.{Settings}
-use Rattle.sig_answers.specs.declared.answers.Answers.{Answers}
-use Rattle.sig_calls.specs.Clients.{Kept}
-use Rattle.sig_calls.specs.Log.{LoggedCall, IsRun, IsBacked}
+use Rattle.registry_cache.specs.declared.answers.Answers.{Answers}
+use Rattle.registry_calls.specs.Clients.{Kept}
+use Rattle.registry_calls.specs.Log.{LoggedCall, IsRun, IsBacked}
 use Rattle.cache_laws.specs.Growth.{ExtendsLog, PreservesLog}
 
 pub as_it_was : (s : Settings) (k l : Kept) (log : List LoggedCall) → k.1 ≡ l.1 → IsRun s log → IsBacked s k.1 log → ExtendsLog s l.1 log

@@ -17,10 +17,10 @@ use Rattle.engine_requests.specs.Requests.{manifest_types}
 use Rattle.engine_requests.specs.Sources.{described}
 use Rattle.engine_answers.specs.Index.{entry_reference}
 use Rattle.engine_rows.specs.Image.{layer_of}
-use Rattle.sig_calls.specs.declared.error.SigstoreError.{SigstoreError}
-use Rattle.sig_calls.specs.Clients.{Row}
-use Rattle.sig_calls.specs.Calls.{digest_call, manifest_call, image_call, referrers_call, document_call, blob_call}
-use Rattle.cosign_layers.specs.Trust.{Trust}
+use Rattle.registry_calls.specs.declared.error.SigstoreError.{SigstoreError}
+use Rattle.registry_calls.specs.Clients.{Row}
+use Rattle.registry_calls.specs.Calls.{digest_call, manifest_call, image_call, referrers_call, document_call, blob_call}
+use Rattle.cosign_parts.specs.Trust.{Trust}
 use Rattle.cosign_layers.specs.Satisfying.{PolicyContext}
 use Rattle.cosign_rows.specs.References.{tag_reference, digest_reference}
 use Rattle.cosign_rows.specs.Search.{payload_type, bundle_type, tag_layers, tag_by, tag_source, referrer_by, referrer_row, referrers_row, listed_row, referrers_source, searched}

@@ -4,9 +4,9 @@ use Rattle.oci_transport.specs.declared.message.Exchange.{Exchange}
 use Rattle.oci_protocol.specs.Proto.{Proto}
 use Rattle.oci_protocol.specs.Runs.{Runs}
 use Rattle.engine_terms.specs.declared.settings.Settings.{Settings}
-use Rattle.sig_answers.specs.declared.answers.Answers.{Answers}
-use Rattle.sig_calls.specs.Clients.{Kept}
-use Rattle.sig_calls.specs.Log.{LoggedCall, IsRun, IsBacked}
+use Rattle.registry_cache.specs.declared.answers.Answers.{Answers}
+use Rattle.registry_calls.specs.Clients.{Kept}
+use Rattle.registry_calls.specs.Log.{LoggedCall, IsRun, IsBacked}
 
 -- the log with these calls is a run, and it backs what is cached now
 pub record ExtendsLog (s : Settings) (kept : Option Answers) (log : List LoggedCall) : Type 0 where

@@ -10,17 +10,17 @@ use Rattle.json_tables.specs.Member.{or_null}
 use Rattle.serde_json.specs.Data.{Data, null}
 use Rattle.serde_json.specs.Find.{get}
 use Rattle.serde_json.specs.Written.{has_float}
-use Rattle.cosign_layers.specs.Layer.{LayerOf}
-use Rattle.cosign_layers.specs.Payload.{content_of, equal_to, payload_of}
+use Rattle.cosign_parts.specs.Layer.{LayerOf}
+use Rattle.cosign_parts.specs.Payload.{content_of, equal_to, payload_of}
 use Rattle.cosign_layers.specs.Read.{Gives, HasOneOutcome, Rejected, RejectedUnlessMemory, input_of}
 use Rattle.cosign_layers.specs.Rejection.{is_memory}
-use Rattle.cosign_layers.specs.Shown.{shown, shown_by_bundle, bundle_shown, payload_shown}
+use Rattle.cosign_parts.specs.Shown.{shown, shown_by_bundle, bundle_shown, payload_shown}
 use Rattle.cosign_layers.specs.Satisfying.{PolicyContext, StandsFor, SatisfiesPolicy}
-use Rattle.cosign_layers.specs.Trust.{Trust}
-use Rattle.cosign_layers.specs.declared.layer.LayerKind.{LayerKind}
-use Rattle.cosign_layers.specs.declared.layer.LayerKind.TheVariants as kinds
-use Rattle.cosign_layers.specs.declared.layer.SignatureLayer.{SignatureLayer}
-use Rattle.cosign_layers.specs.declared.layer.SimpleSigning.{SimpleSigning}
+use Rattle.cosign_parts.specs.Trust.{Trust}
+use Rattle.cosign_parts.specs.declared.layer.LayerKind.{LayerKind}
+use Rattle.cosign_parts.specs.declared.layer.LayerKind.TheVariants as kinds
+use Rattle.cosign_parts.specs.declared.layer.SignatureLayer.{SignatureLayer}
+use Rattle.cosign_parts.specs.declared.layer.SimpleSigning.{SimpleSigning}
 use Rattle.cosign_layers.specs.declared.rejection.LayerRejection.{LayerRejection}
 use Rattle.cosign_chain.specs.SameLayer.{same_reading}
 use Rattle.cosign_chain.proofs.SameLayers.{IsPlain, Reading, reading_is, reading_same}

@@ -4,11 +4,11 @@ use Rattle.std.specs.Bool.{Decides}
 use Rattle.std.proofs.lemmas.Slice.Eq.{bytes_eq-Decides}
 use Rattle.std.proofs.lemmas.Bool.Decides.{Decides-int_eq}
 use Rattle.serde_json.specs.Written.{has_float}
-use Rattle.cosign_layers.specs.declared.certificate.CertificateSignature.{CertificateSignature}
-use Rattle.cosign_layers.specs.declared.certificate.Vouched.{Vouched}
-use Rattle.cosign_layers.specs.declared.layer.SignatureLayer.{SignatureLayer}
-use Rattle.cosign_layers.specs.declared.layer.SimpleSigning.{SimpleSigning}
-use Rattle.cosign_layers.specs.declared.log_entry.LogEntryBundle.{LogEntryBundle}
+use Rattle.cosign_parts.specs.declared.certificate.CertificateSignature.{CertificateSignature}
+use Rattle.cosign_parts.specs.declared.certificate.Vouched.{Vouched}
+use Rattle.cosign_parts.specs.declared.layer.SignatureLayer.{SignatureLayer}
+use Rattle.cosign_parts.specs.declared.layer.SimpleSigning.{SimpleSigning}
+use Rattle.cosign_parts.specs.declared.log_entry.LogEntryBundle.{LogEntryBundle}
 use Rattle.cosign_chain.specs.Same.{same_data}
 use Rattle.cosign_chain.specs.SameManifest.{same_option}
 use Rattle.cosign_chain.specs.SameLayer.{same_signing, same_vouched, same_certificate, same_entry, same_reading}

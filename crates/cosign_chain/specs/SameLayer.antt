@@ -1,11 +1,11 @@
 -- Whether two signature layers with equal bytes and annotations have the same other fields, compared one by one.
 use Rattle.std.specs.Prelude.{Bool, ◌&&◌, bytes_eq}
 use Rattle.std.specs.Ordering.{int_eq}
-use Rattle.cosign_layers.specs.declared.certificate.CertificateSignature.{CertificateSignature}
-use Rattle.cosign_layers.specs.declared.certificate.Vouched.{Vouched}
-use Rattle.cosign_layers.specs.declared.layer.SignatureLayer.{SignatureLayer}
-use Rattle.cosign_layers.specs.declared.layer.SimpleSigning.{SimpleSigning}
-use Rattle.cosign_layers.specs.declared.log_entry.LogEntryBundle.{LogEntryBundle}
+use Rattle.cosign_parts.specs.declared.certificate.CertificateSignature.{CertificateSignature}
+use Rattle.cosign_parts.specs.declared.certificate.Vouched.{Vouched}
+use Rattle.cosign_parts.specs.declared.layer.SignatureLayer.{SignatureLayer}
+use Rattle.cosign_parts.specs.declared.layer.SimpleSigning.{SimpleSigning}
+use Rattle.cosign_parts.specs.declared.log_entry.LogEntryBundle.{LogEntryBundle}
 use Rattle.cosign_chain.specs.Same.{same_data}
 use Rattle.cosign_chain.specs.SameManifest.{same_option}
 

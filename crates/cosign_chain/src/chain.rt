@@ -2,7 +2,7 @@
 ghost use Rattle.std.specs.Prelude.{◌≡◌, ◌↔◌, IfOk, IfErr, IsTrue, option_copied};
 ghost use Rattle.cosign_layers.specs.Read.{Gives, HasOneOutcome, RejectedUnlessMemory, input_of};
 ghost use Rattle.cosign_layers.specs.Satisfying.{StandsFor, policy_context};
-ghost use Rattle.cosign_layers.specs.Trust.{trust};
+ghost use Rattle.cosign_parts.specs.Trust.{trust};
 ghost use Rattle.cosign_chain.specs.Chain.{Chain};
 
 use crate::documents::leads_to_manifest;
@@ -10,12 +10,12 @@ use crate::image::VerifiedImage;
 use crate::links::check_links;
 use crate::same_layer::same_reading;
 use cosign_layers::{
-    LayerKind, LayerRejection, LogKeys, Offline, PullPolicy, SignatureLayer, SignatureVerifier,
-    read_bundle_layer, read_payload_layer, satisfies_policy,
+    LayerRejection, PullPolicy, read_bundle_layer, read_payload_layer, satisfies_policy,
 };
+use cosign_parts::{LayerKind, LogKeys, Offline, SignatureLayer, SignatureVerifier};
 use json_values::Text;
+use oci_descriptors::ResolverPromise;
 use oci_names::Reference;
-use oci_platforms::ResolverPromise;
 use std::alloc::{AllocError, Global};
 
 /// Returns whether the whole chain of an image holds, without a client and without requests.

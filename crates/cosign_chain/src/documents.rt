@@ -11,11 +11,11 @@ ghost use Rattle.cosign_chain.specs.SameManifest.{same_option};
 use crate::image::VerifiedImage;
 use crate::same_manifest::same_manifest;
 use json_values::{Blob, Text, read_json};
+use oci_descriptors::ResolverPromise;
 use oci_digests::names_digest;
 use oci_manifests::{
     OciImageIndex, OciImageManifest, OciManifest, ReadError, Versioned, is_manifest_media_type,
 };
-use oci_platforms::ResolverPromise;
 use serde_json::Value;
 use std::alloc::{AllocError, Global};
 

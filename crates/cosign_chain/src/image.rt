@@ -1,5 +1,5 @@
 //! An image with the signature layer that stands for it.
-use cosign_layers::SignatureLayer;
+use cosign_parts::SignatureLayer;
 use json_values::{Blob, Copied, List, Text, copied};
 use oci_manifests::blob::Config;
 use oci_manifests::{ImageLayer, OciImageManifest};

@@ -5,7 +5,7 @@ ghost use Rattle.cosign_chain.specs.SameManifest.{same_option};
 
 use crate::same::same_value;
 use crate::same_manifest::same_text;
-use cosign_layers::{CertificateSignature, LogEntryBundle, SignatureLayer, SimpleSigning, Vouched};
+use cosign_parts::{CertificateSignature, LogEntryBundle, SignatureLayer, SimpleSigning, Vouched};
 
 pub(crate) fn same_reading(a: &SignatureLayer, b: &SignatureLayer) -> bool
     ensures { result ≡ same_reading a.now b.now }

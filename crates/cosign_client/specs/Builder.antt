@@ -5,10 +5,10 @@ use Rattle.json_values.specs.Places.{by_bytes}
 use Rattle.oci_auth.specs.AuthState.{fresh}
 use Rattle.oci_engine.specs.Clients.{settings_of}
 use Rattle.oci_engine.specs.declared.config.ClientConfig.{ClientConfig as OciConfig}
-use Rattle.sig_calls.specs.Clients.{Client as Shown, no_answers}
+use Rattle.registry_calls.specs.Clients.{Client as Shown, no_answers}
 use Rattle.sig_registry.specs.Config.{oci_config}
 use Rattle.sig_registry.specs.declared.config.ClientConfig.{ClientConfig}
-use Rattle.cosign_layers.specs.Constraint.{has_no_item}
+use Rattle.cosign_parts.specs.Items.{has_no_item}
 use Rattle.cosign_client.specs.declared.builder.ClientBuilder.{ClientBuilder}
 
 abbrev pub config_of : ClientBuilder → ClientConfig

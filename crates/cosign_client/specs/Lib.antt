@@ -1,2 +1,3 @@
 pub mod Builder
+pub mod Clients
 pub mod State

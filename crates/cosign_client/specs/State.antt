@@ -1,7 +1,7 @@
 -- The state of a client: its settings, what it keeps between its calls, and whom it trusts.
-use Rattle.sig_calls.specs.Clients.{Client as Shown}
+use Rattle.registry_calls.specs.Clients.{Client as Shown}
 use Rattle.sig_registry.specs.States.{state_of}
-use Rattle.cosign_layers.specs.Trust.{Trust, Valid, Vouching, trust}
+use Rattle.cosign_parts.specs.Trust.{Trust, Valid, Vouching, trust}
 use Rattle.cosign_client.specs.declared.client.Client.{Client}
 
 abbrev pub client_state : Client → Shown

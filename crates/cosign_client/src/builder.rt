@@ -8,7 +8,7 @@ ghost use Rattle.cosign_client.specs.State.{client_state};
 
 use crate::client::Client;
 use crate::trust_root::TrustRoot;
-use cosign_layers::LogKeys;
+use cosign_parts::LogKeys;
 use oci_engine::ClientConfig as OciConfig;
 use sig_registry::{ClientConfig, OciCachingClient, OciClient, RegistryClient};
 use std::alloc::{AllocError, Global};

@@ -1,12 +1,16 @@
 //! Pulls an image only if a trusted signature stands for it.
 #![tactic(auto)]
 
+mod asked;
 mod builder;
 mod client;
 mod trust_root;
+mod written_client;
 
+pub use asked::{Asked, ask_for, image_in};
 pub use builder::ClientBuilder;
 pub use client::Client;
 pub use cosign_chain::{VerifiedImage, check_chain, check_links};
 pub use cosign_rows::{PullRefusal, SkipCause, Skipped, SourceKind, TrustedLayers};
 pub use trust_root::TrustRoot;
+pub use written_client::{WrittenClient, client_by};

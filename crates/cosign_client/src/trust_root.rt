@@ -3,7 +3,7 @@ ghost use Rattle.std.specs.Prelude.{◌≡◌, ℕ, List, IfOk};
 ghost use Rattle.std.specs.FinMap.{FinMap};
 ghost use Rattle.json_values.specs.Places.{by_bytes};
 
-use cosign_layers::LogKeys;
+use cosign_parts::LogKeys;
 use std::alloc::{AllocError, Global};
 
 /// Knows the keys of transparency logs.

@@ -6,8 +6,8 @@ use Rattle.oci_protocol.specs.Proto.{Proto, Done, bind, unless_refused, â—Œ>>=â—
 use Rattle.oci_protocol.specs.Runs.{Runs, Meets, Told}
 use Rattle.oci_protocol.specs.EveryRun.{EveryRun}
 use Rattle.oci_protocol.proofs.Parts.{Runs-parts, Runs-done}
-use Rattle.sig_calls.specs.declared.error.SigstoreError.{SigstoreError}
-use Rattle.sig_calls.specs.Clients.{Kept, Row}
+use Rattle.registry_calls.specs.declared.error.SigstoreError.{SigstoreError}
+use Rattle.registry_calls.specs.Clients.{Kept, Row}
 use Rattle.cosign_rows.specs.Verified.{as_whole, part_of}
 use Rattle.cosign_laws.proofs.Images.{Seen}
 

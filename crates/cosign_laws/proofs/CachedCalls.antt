@@ -10,13 +10,14 @@ use Rattle.oci_protocol.proofs.Ends.{Ends-bind}
 use Rattle.oci_protocol.proofs.WiderMemory.{Ends-lifted, Runs-unlifted}
 use Rattle.oci_protocol.proofs.Parts.{Runs-parts}
 use Rattle.engine_terms.specs.declared.settings.Settings.{Settings}
-use Rattle.engine_laws.specs.Held.{Entry}
+use Rattle.engine_rows.specs.Held.{Entry}
 use Rattle.engine_laws.proofs.Confines.{ConfinesBy, Alone, Beside, confines_done, confines_bind, confines_recall, confines_kept, confines_lifted}
-use Rattle.sig_answers.specs.Answers.{keep, entry}
-use Rattle.sig_answers.specs.declared.answers.Answers.{Answers}
-use Rattle.sig_calls.specs.declared.error.SigstoreError.{SigstoreError}
-use Rattle.sig_calls.specs.Caching.{Cache, known, keeping, known_or, recalled, cached}
-use Rattle.sig_calls.specs.Clients.{Kept, Plain, Row}
+use Rattle.registry_cache.specs.Answers.{keep, entry}
+use Rattle.registry_cache.specs.declared.answers.Answers.{Answers}
+use Rattle.registry_calls.specs.declared.error.SigstoreError.{SigstoreError}
+use Rattle.registry_calls.specs.Caching.{keeping, known_or, recalled, cached}
+use Rattle.registry_cache.specs.Caching.{Cache, known}
+use Rattle.registry_calls.specs.Clients.{Kept, Plain, Row}
 use Rattle.cosign_laws.proofs.Counts.{Counts}
 
 module _ {A : Type 0} (cache : Cache A) (key : List ℕ) (now : ℕ) where

@@ -29,19 +29,20 @@ use Rattle.engine_requests.specs.Requests.{manifest_types}
 use Rattle.engine_rows.specs.Rows.{Row as Engine}
 use Rattle.engine_rows.specs.Pulls.{fetch_manifest_digest, pull_manifest_raw, held_blob}
 use Rattle.engine_rows.specs.Image.{layers_accepted, layer_of}
-use Rattle.sig_calls.specs.declared.error.SigstoreError.{SigstoreError}
-use Rattle.sig_calls.specs.declared.error.SigstoreError.TheVariants as sigstore
-use Rattle.sig_calls.specs.declared.error_context.Called.{Called}
-use Rattle.sig_calls.specs.declared.error_context.Called.TheVariants.{FetchManifest, Pull, PullManifest}
-use Rattle.sig_calls.specs.Error.{is_memory as of_memory}
-use Rattle.sig_calls.specs.ErrorContext.{with_error_context, refusal as call_refusal}
-use Rattle.sig_calls.specs.Clients.{Kept, Row}
-use Rattle.sig_settings.specs.Keys.{manifest_key}
-use Rattle.sig_answers.specs.declared.answers.Answers.{Answers}
-use Rattle.sig_calls.specs.Calls.{in_words, digests, digest_made, document_made, blob_made, digest_call, image_call, document_call, blob_call, referrers_call}
+use Rattle.registry_calls.specs.declared.error.SigstoreError.{SigstoreError}
+use Rattle.registry_calls.specs.declared.error.SigstoreError.TheVariants as sigstore
+use Rattle.registry_calls.specs.declared.error_context.Called.{Called}
+use Rattle.registry_calls.specs.declared.error_context.Called.TheVariants.{FetchManifest, Pull, PullManifest}
+use Rattle.registry_calls.specs.Error.{is_memory as of_memory}
+use Rattle.registry_calls.specs.ErrorContext.{with_error_context, refusal as call_refusal}
+use Rattle.registry_calls.specs.Clients.{Kept, Row}
+use Rattle.registry_cache.specs.Keys.{manifest_key}
+use Rattle.registry_cache.specs.declared.answers.Answers.{Answers}
+use Rattle.registry_calls.specs.Calls.{in_words, digest_made, document_made, blob_made, digest_call, image_call, document_call, blob_call, referrers_call}
+use Rattle.registry_cache.specs.KeptCalls.{digests}
 use Rattle.cosign_layers.specs.Satisfying.{PolicyContext}
-use Rattle.cosign_layers.specs.Trust.{Trust}
-use Rattle.cosign_layers.specs.declared.layer.SignatureLayer.{SignatureLayer}
+use Rattle.cosign_parts.specs.Trust.{Trust}
+use Rattle.cosign_parts.specs.declared.layer.SignatureLayer.{SignatureLayer}
 use Rattle.cosign_chain.specs.declared.image.VerifiedImage.{VerifiedImage}
 use Rattle.cosign_rows.specs.Causes.{SearchCause, Found, PullCause}
 use Rattle.cosign_rows.specs.Image.{document_in, entry_in, with_image, layers_row, blobs_row, entry_call, entry_row, manifest_row, image_row}

@@ -23,27 +23,28 @@ use Rattle.engine_terms.specs.Contexts.{Context}
 use Rattle.engine_rows.specs.declared.image.ImageData.{ImageData}
 use Rattle.engine_laws.proofs.DigestAnswers.{answered_before}
 use Rattle.engine_laws.proofs.DocumentAnswers.{body_after}
-use Rattle.engine_laws.specs.Answered.{DigestAnswered}
-use Rattle.sig_calls.specs.declared.error.SigstoreError.{SigstoreError}
-use Rattle.sig_calls.specs.Error.{is_memory}
-use Rattle.sig_calls.specs.Clients.{Kept, Row}
-use Rattle.sig_settings.specs.Keys.{manifest_key}
-use Rattle.sig_calls.specs.Caching.{known}
-use Rattle.sig_calls.specs.Calls.{digests, digest_made, digest_call, manifest_call, image_call, referrers_call}
+use Rattle.engine_rows.specs.Answered.{DigestAnswered}
+use Rattle.registry_calls.specs.declared.error.SigstoreError.{SigstoreError}
+use Rattle.registry_calls.specs.Error.{is_memory}
+use Rattle.registry_calls.specs.Clients.{Kept, Row}
+use Rattle.registry_cache.specs.Keys.{manifest_key}
+use Rattle.registry_cache.specs.Caching.{known}
+use Rattle.registry_calls.specs.Calls.{digest_made, digest_call, manifest_call, image_call, referrers_call}
+use Rattle.registry_cache.specs.KeptCalls.{digests}
 use Rattle.cosign_layers.specs.Checks.{input}
-use Rattle.cosign_layers.specs.Constraint.{has_no_item}
-use Rattle.cosign_layers.specs.Layer.{LayerOf, IsAboutImage}
+use Rattle.cosign_parts.specs.Items.{has_no_item}
+use Rattle.cosign_parts.specs.Layer.{LayerOf, IsAboutImage}
 use Rattle.cosign_layers.specs.Satisfying.{PolicyContext, StandsFor}
-use Rattle.cosign_layers.specs.Trust.{Trust}
-use Rattle.cosign_layers.specs.declared.layer.LayerKind.TheVariants as kinds
-use Rattle.cosign_layers.specs.declared.layer.SignatureLayer.{SignatureLayer}
+use Rattle.cosign_parts.specs.Trust.{Trust}
+use Rattle.cosign_parts.specs.declared.layer.LayerKind.TheVariants as kinds
+use Rattle.cosign_parts.specs.declared.layer.SignatureLayer.{SignatureLayer}
 use Rattle.cosign_layers.specs.declared.rejection.LayerRejection.{LayerRejection}
 use Rattle.cosign_layers.proofs.Layers.{gives}
 use Rattle.cosign_layers.proofs.SatisfiesPolicy.{stands_for}
 use Rattle.oci_digests.specs.Names.{Names, digest_text}
 use Rattle.oci_digests.specs.declared.digester.Algorithm.TheVariants.{Sha256}
-use Rattle.oci_platforms.specs.Promise.{Picks}
-use Rattle.oci_platforms.specs.declared.promise.ResolverPromise.{ResolverPromise}
+use Rattle.oci_descriptors.specs.Promise.{Picks}
+use Rattle.oci_descriptors.specs.declared.promise.ResolverPromise.{ResolverPromise}
 use Rattle.cosign_chain.specs.Chain.{Chain, FirstIsManifest, FirstIsIndex, LeadsToManifest}
 use Rattle.cosign_chain.specs.Links.{Links as HasLinks}
 use Rattle.cosign_chain.specs.declared.image.VerifiedImage.{VerifiedImage}

@@ -4,13 +4,14 @@ use Rattle.std.proofs.Common.{◌≡◌, ℕ, Bool, true, false, List, [], ◌�
 use Rattle.std.specs.Prelude.{if◌then◌else◌, bytes_eq, unwrap_or}
 use Rattle.oci_protocol.specs.Proto.{Proto, Done}
 use Rattle.oci_protocol.specs.Runs.{Meets, Told}
-use Rattle.engine_laws.specs.Confined.{Within}
-use Rattle.engine_laws.specs.Held.{Entry, pulling}
+use Rattle.engine_rows.specs.Confined.{Within}
+use Rattle.engine_rows.specs.Held.{Entry, pulling}
 use Rattle.engine_laws.proofs.Confines.{ConfinesBy, Alone, Beside, confines_by, confines_done, confines_bind, confines_next, confines_lifted, confines_same, confines_call}
 use Rattle.engine_laws.proofs.ShownTokens.{Ended}
-use Rattle.sig_settings.specs.Keys.{manifest_key, pull_key, referrers_key}
-use Rattle.sig_calls.specs.Clients.{Kept, Row}
-use Rattle.sig_calls.specs.Calls.{in_words, digest_made, manifest_made, image_made, document_made, blob_made, referrers_made, digests, manifests, images, referrers, digest_call, manifest_call, image_call, document_call, blob_call, referrers_call}
+use Rattle.registry_cache.specs.Keys.{manifest_key, pull_key, referrers_key}
+use Rattle.registry_calls.specs.Clients.{Kept, Row}
+use Rattle.registry_calls.specs.Calls.{in_words, digest_made, manifest_made, image_made, document_made, blob_made, referrers_made, digest_call, manifest_call, image_call, document_call, blob_call, referrers_call}
+use Rattle.registry_cache.specs.KeptCalls.{digests, manifests, images, referrers}
 use Rattle.cosign_laws.proofs.CachedCalls.{cached_confines}
 use Rattle.oci_transport.specs.Link.{Link}
 use Rattle.oci_names.specs.declared.reference.Reference.{Reference}
@@ -38,14 +39,14 @@ use Rattle.engine_rows.specs.Referrers.{pull_referrers}
 use Rattle.engine_laws.proofs.CallConfinement.{Any, given_safe}
 use Rattle.engine_laws.proofs.ReferrersSound.{referrers_sound, same_registry}
 use Rattle.engine_laws.proofs.HeaderCauses.{digest_sound, raw_sound, manifest_sound, image_sound, blob_sound}
-use Rattle.sig_calls.specs.declared.error.SigstoreError.{SigstoreError}
-use Rattle.sig_calls.specs.declared.error_context.Called.{Called}
-use Rattle.sig_calls.specs.declared.error_context.Called.TheVariants as calls
-use Rattle.sig_calls.specs.Error.{is_memory}
-use Rattle.sig_calls.specs.ErrorContext.{with_error_context}
+use Rattle.registry_calls.specs.declared.error.SigstoreError.{SigstoreError}
+use Rattle.registry_calls.specs.declared.error_context.Called.{Called}
+use Rattle.registry_calls.specs.declared.error_context.Called.TheVariants as calls
+use Rattle.registry_calls.specs.Error.{is_memory}
+use Rattle.registry_calls.specs.ErrorContext.{with_error_context}
 use Rattle.cosign_chain.specs.declared.image.VerifiedImage.{VerifiedImage}
 use Rattle.cosign_layers.specs.Satisfying.{PolicyContext}
-use Rattle.cosign_layers.specs.Trust.{Trust}
+use Rattle.cosign_parts.specs.Trust.{Trust}
 use Rattle.cosign_rows.specs.Image.{document_in, entry_in, with_image, layers_row, blobs_row, entry_call, entry_row, manifest_row, image_row}
 use Rattle.cosign_rows.specs.Refusal.{is_memory as of_refusal}
 use Rattle.cosign_rows.specs.declared.refusal.PullRefusal.{PullRefusal}

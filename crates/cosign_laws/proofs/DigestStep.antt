@@ -12,13 +12,13 @@ use Rattle.oci_protocol.specs.EveryRun.{EveryRunKept}
 use Rattle.oci_protocol.proofs.Ends.{Meets-ends}
 use Rattle.oci_protocol.proofs.KeptFacts.{EveryRunKept-run, EveryRunKept-bind, EveryRunKept-step, Meets-shows-kept}
 use Rattle.engine_terms.specs.Contexts.{Context}
-use Rattle.sig_calls.specs.declared.error.SigstoreError.{SigstoreError}
-use Rattle.sig_calls.specs.declared.error.SigstoreError.TheVariants as sigstore
-use Rattle.sig_calls.specs.Error.{is_memory as of_memory}
-use Rattle.sig_calls.specs.Clients.{Kept}
-use Rattle.sig_calls.specs.Calls.{digest_call}
+use Rattle.registry_calls.specs.declared.error.SigstoreError.{SigstoreError}
+use Rattle.registry_calls.specs.declared.error.SigstoreError.TheVariants as sigstore
+use Rattle.registry_calls.specs.Error.{is_memory as of_memory}
+use Rattle.registry_calls.specs.Clients.{Kept}
+use Rattle.registry_calls.specs.Calls.{digest_call}
 use Rattle.cosign_layers.specs.Satisfying.{PolicyContext}
-use Rattle.cosign_layers.specs.Trust.{Trust}
+use Rattle.cosign_parts.specs.Trust.{Trust}
 use Rattle.cosign_chain.specs.declared.image.VerifiedImage.{VerifiedImage}
 use Rattle.cosign_rows.specs.DigestStep.{IsRefusedAs, unchanged, Decides, BeginsWithDigest}
 use Rattle.cosign_rows.specs.Snapshots.{Snapshot, snapshot, RanBetween}

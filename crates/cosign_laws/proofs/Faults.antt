@@ -37,32 +37,34 @@ use Rattle.engine_rows.specs.Referrers.{pull_referrers}
 use Rattle.engine_rows.specs.Pulls.{pull_manifest}
 use Rattle.engine_rows.specs.Image.{pull}
 use Rattle.engine_rows.specs.declared.image.ImageData.{ImageData}
-use Rattle.engine_laws.specs.Causes.{DocumentCause, ManifestUrl, OwnDigest}
+use Rattle.engine_rows.specs.Causes.{DocumentCause, ManifestUrl, OwnDigest}
 use Rattle.engine_laws.proofs.EarlyCauses.{Loose}
 use Rattle.engine_laws.proofs.ImageCauses.{RowCause, image_causes}
 use Rattle.engine_laws.proofs.ManifestCauses.{manifest_causes}
 use Rattle.engine_laws.proofs.CallCauses.{manifest_fault, image_fault}
 use Rattle.engine_laws.proofs.TokenCauses.{given_shown, token_fault}
-use Rattle.engine_laws.specs.TokenCauses.{TokenCause}
-use Rattle.engine_laws.specs.Held.{Entry, pulling}
-use Rattle.engine_laws.specs.Referrers.{ReferrersCause}
+use Rattle.engine_rows.specs.TokenCauses.{TokenCause}
+use Rattle.engine_rows.specs.Held.{Entry, pulling}
+use Rattle.engine_rows.specs.ReferrersCauses.{ReferrersCause}
 use Rattle.engine_laws.proofs.ReferrersCauses.{referrers_causes, referrers_no_sink, referrers_fault}
-use Rattle.sig_calls.specs.declared.error.SigstoreError.{SigstoreError}
-use Rattle.sig_calls.specs.declared.error.SigstoreError.TheVariants as sigstore
-use Rattle.sig_calls.specs.declared.error_context.Called.{Called}
-use Rattle.sig_calls.specs.declared.error_context.Called.TheVariants.{FetchManifest, Pull, PullManifest}
-use Rattle.sig_calls.specs.Error.{is_memory}
-use Rattle.sig_calls.specs.ErrorContext.{with_error_context, refusal as call_refusal}
-use Rattle.sig_settings.specs.Keys.{manifest_key, pull_key, referrers_key}
-use Rattle.sig_calls.specs.Caching.{Cache, cached}
-use Rattle.sig_calls.specs.Clients.{Kept, Plain, Row}
-use Rattle.sig_calls.specs.Calls.{in_words, manifests, images, referrers, manifest_made, image_made, referrers_made, digest_call, manifest_call, image_call, referrers_call}
+use Rattle.registry_calls.specs.declared.error.SigstoreError.{SigstoreError}
+use Rattle.registry_calls.specs.declared.error.SigstoreError.TheVariants as sigstore
+use Rattle.registry_calls.specs.declared.error_context.Called.{Called}
+use Rattle.registry_calls.specs.declared.error_context.Called.TheVariants.{FetchManifest, Pull, PullManifest}
+use Rattle.registry_calls.specs.Error.{is_memory}
+use Rattle.registry_calls.specs.ErrorContext.{with_error_context, refusal as call_refusal}
+use Rattle.registry_cache.specs.Keys.{manifest_key, pull_key, referrers_key}
+use Rattle.registry_calls.specs.Caching.{cached}
+use Rattle.registry_cache.specs.Caching.{Cache}
+use Rattle.registry_calls.specs.Clients.{Kept, Plain, Row}
+use Rattle.registry_calls.specs.Calls.{in_words, manifest_made, image_made, referrers_made, digest_call, manifest_call, image_call, referrers_call}
+use Rattle.registry_cache.specs.KeptCalls.{manifests, images, referrers}
 use Rattle.cosign_layers.specs.Checks.{input, Input, layer_read}
 use Rattle.cosign_layers.specs.Rejection.{is_memory as is_layer_memory}
 use Rattle.cosign_layers.specs.Satisfying.{PolicyContext}
-use Rattle.cosign_layers.specs.Trust.{Trust}
-use Rattle.cosign_layers.specs.declared.layer.LayerKind.TheVariants as kinds
-use Rattle.cosign_layers.specs.declared.layer.SignatureLayer.{SignatureLayer}
+use Rattle.cosign_parts.specs.Trust.{Trust}
+use Rattle.cosign_parts.specs.declared.layer.LayerKind.TheVariants as kinds
+use Rattle.cosign_parts.specs.declared.layer.SignatureLayer.{SignatureLayer}
 use Rattle.cosign_layers.specs.declared.rejection.LayerRejection.{LayerRejection}
 use Rattle.cosign_layers.specs.declared.rejection.LayerRejection.TheVariants.{WantOfMemory, LayerNotPulled}
 use Rattle.cosign_layers.proofs.Layers.{never_memory}

@@ -34,23 +34,23 @@ use Rattle.engine_answers.specs.Answers.{or_digest_error}
 use Rattle.engine_requests.specs.Requests.{manifest_types}
 use Rattle.engine_answers.specs.Documents.{document_read}
 use Rattle.engine_answers.specs.Index.{entry_found, entry_manifest, entry_reference}
-use Rattle.oci_platforms.specs.Promise.{Picks}
-use Rattle.oci_platforms.specs.declared.promise.ResolverPromise.{ResolverPromise}
+use Rattle.oci_descriptors.specs.Promise.{Picks}
+use Rattle.oci_descriptors.specs.declared.promise.ResolverPromise.{ResolverPromise}
 use Rattle.engine_rows.specs.Blobs.{IntoMemory}
 use Rattle.engine_rows.specs.Rows.{Row as Engine}
 use Rattle.engine_rows.specs.Pulls.{fetch_manifest_digest, pull_manifest_raw, held_blob}
 use Rattle.engine_rows.specs.Image.{is_accepted, all_accepted, layers_accepted, layer_of, config_of}
-use Rattle.engine_laws.specs.Answered.{DigestAnswered, Body, Document, LastBody}
+use Rattle.engine_rows.specs.Answered.{DigestAnswered, Body, Document, LastBody}
 use Rattle.engine_laws.proofs.DocumentAnswers.{body_before, body_after, raw_shows}
 use Rattle.engine_laws.proofs.BlobAnswers.{blob_shows}
 use Rattle.engine_laws.proofs.DigestAnswers.{digest_shows}
-use Rattle.sig_calls.specs.declared.error.SigstoreError.{SigstoreError}
-use Rattle.sig_calls.specs.declared.error.SigstoreError.TheVariants as sigstore
-use Rattle.sig_calls.specs.declared.error_context.Called.{Called}
-use Rattle.sig_calls.specs.declared.error_context.Called.TheVariants.{FetchManifest, Pull}
-use Rattle.sig_calls.specs.ErrorContext.{with_error_context, refusal}
-use Rattle.sig_calls.specs.Clients.{Kept, Row}
-use Rattle.sig_calls.specs.Calls.{in_words, digest_made, document_made, blob_made, document_call, blob_call}
+use Rattle.registry_calls.specs.declared.error.SigstoreError.{SigstoreError}
+use Rattle.registry_calls.specs.declared.error.SigstoreError.TheVariants as sigstore
+use Rattle.registry_calls.specs.declared.error_context.Called.{Called}
+use Rattle.registry_calls.specs.declared.error_context.Called.TheVariants.{FetchManifest, Pull}
+use Rattle.registry_calls.specs.ErrorContext.{with_error_context, refusal}
+use Rattle.registry_calls.specs.Clients.{Kept, Row}
+use Rattle.registry_calls.specs.Calls.{in_words, digest_made, document_made, blob_made, document_call, blob_call}
 use Rattle.cosign_rows.specs.declared.pulled.Pulled.{Pulled}
 use Rattle.cosign_rows.specs.declared.pulled.PulledManifest.{PulledManifest}
 use Rattle.cosign_laws.proofs.Entries.{found_picked}

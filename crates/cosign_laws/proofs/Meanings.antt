@@ -7,8 +7,8 @@ use Rattle.oci_auth.specs.declared.auth.RegistryAuth.{RegistryAuth}
 use Rattle.oci_protocol.specs.Proto.{Done, ◌>>=◌, ◌>>◌}
 use Rattle.engine_terms.specs.Contexts.{Context}
 use Rattle.cosign_layers.specs.Satisfying.{PolicyContext}
-use Rattle.cosign_layers.specs.Trust.{Trust}
-use Rattle.cosign_layers.specs.declared.layer.SignatureLayer.{SignatureLayer}
+use Rattle.cosign_parts.specs.Trust.{Trust}
+use Rattle.cosign_parts.specs.declared.layer.SignatureLayer.{SignatureLayer}
 use Rattle.cosign_chain.specs.declared.image.VerifiedImage.{VerifiedImage}
 use Rattle.cosign_rows.specs.Image.{image_row}
 use Rattle.cosign_rows.specs.References.{digest_reference}

@@ -37,8 +37,8 @@ use Rattle.engine_answers.specs.Documents.{plain_of, type_checked, version_check
 use Rattle.engine_terms.specs.Error.{is_memory as engine_is_memory, ◌>>=◌ as ◌before◌}
 use Rattle.engine_requests.specs.Requests.{manifest_types}
 use Rattle.engine_answers.specs.Index.{entry_named, entry_found, entry_manifest, entry_reference}
-use Rattle.oci_platforms.specs.Promise.{lists, resolved}
-use Rattle.oci_platforms.specs.declared.promise.ResolverPromise.{ResolverPromise}
+use Rattle.oci_descriptors.specs.Promise.{lists, resolved}
+use Rattle.oci_descriptors.specs.declared.promise.ResolverPromise.{ResolverPromise}
 use Rattle.oci_manifests.specs.declared.index.OciImageIndex.{OciImageIndex}
 use Rattle.oci_descriptors.specs.declared.index_entry.ImageIndexEntry.{ImageIndexEntry}
 use Rattle.engine_rows.specs.Blobs.{IntoMemory}
@@ -46,23 +46,24 @@ use Rattle.engine_rows.specs.Rows.{Row as Engine}
 use Rattle.engine_rows.specs.Pulls.{fetch_manifest_digest, pull_manifest_raw, held_blob}
 use Rattle.engine_rows.specs.declared.image.ImageData.{ImageData}
 use Rattle.engine_rows.specs.Image.{is_accepted, all_accepted, layers_accepted, layer_of}
-use Rattle.engine_laws.specs.Causes.{Act, AnswerCause, BlobUrl, ManifestUrl, OwnDigest}
+use Rattle.engine_rows.specs.Causes.{Act, AnswerCause, BlobUrl, ManifestUrl, OwnDigest}
 use Rattle.engine_laws.proofs.BlobCauses.{blob_causes}
 use Rattle.engine_laws.proofs.DocumentCauses.{Accepted, OwnCause, raw_causes}
 use Rattle.engine_laws.proofs.EarlyCauses.{Loose, LooseBlob}
 use Rattle.engine_laws.proofs.CallCauses.{digest_fault, raw_fault, blob_fault}
 use Rattle.engine_laws.proofs.DigestCauses.{digest_causes}
-use Rattle.sig_calls.specs.declared.error.SigstoreError.{SigstoreError}
-use Rattle.sig_calls.specs.declared.error.SigstoreError.TheVariants as sigstore
-use Rattle.sig_calls.specs.declared.error_context.Called.TheVariants.{FetchManifest, Pull}
-use Rattle.sig_calls.specs.Error.{is_memory, registry_refusal, FaultCounted as SearchFaultCounted, NoSinkFault as NoSinkInSearch}
-use Rattle.sig_calls.specs.ErrorContext.{with_error_context}
-use Rattle.sig_calls.specs.Clients.{Kept, Row}
-use Rattle.sig_settings.specs.Keys.{manifest_key}
-use Rattle.sig_calls.specs.Calls.{digests, digest_made, document_made, blob_made, digest_call, manifest_call, image_call, document_call, blob_call, referrers_call}
+use Rattle.registry_calls.specs.declared.error.SigstoreError.{SigstoreError}
+use Rattle.registry_calls.specs.declared.error.SigstoreError.TheVariants as sigstore
+use Rattle.registry_calls.specs.declared.error_context.Called.TheVariants.{FetchManifest, Pull}
+use Rattle.registry_calls.specs.Error.{is_memory, registry_refusal, FaultCounted as SearchFaultCounted, NoSinkFault as NoSinkInSearch}
+use Rattle.registry_calls.specs.ErrorContext.{with_error_context}
+use Rattle.registry_calls.specs.Clients.{Kept, Row}
+use Rattle.registry_cache.specs.Keys.{manifest_key}
+use Rattle.registry_calls.specs.Calls.{digest_made, document_made, blob_made, digest_call, manifest_call, image_call, document_call, blob_call, referrers_call}
+use Rattle.registry_cache.specs.KeptCalls.{digests}
 use Rattle.cosign_layers.specs.Satisfying.{PolicyContext}
-use Rattle.cosign_layers.specs.Trust.{Trust}
-use Rattle.cosign_layers.specs.declared.layer.SignatureLayer.{SignatureLayer}
+use Rattle.cosign_parts.specs.Trust.{Trust}
+use Rattle.cosign_parts.specs.declared.layer.SignatureLayer.{SignatureLayer}
 use Rattle.cosign_chain.specs.declared.image.VerifiedImage.{VerifiedImage}
 use Rattle.cosign_rows.specs.Image.{named_by_reference, document_in, entry_in, with_image, layers_row, blobs_row, entry_call, entry_row, manifest_row, image_row}
 use Rattle.cosign_rows.specs.Part.{nothing, skipping, appended}

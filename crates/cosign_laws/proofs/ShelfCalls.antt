@@ -25,20 +25,22 @@ use Rattle.shelf_laws.specs.IsHosted.{IsAt, Settled}
 use Rattle.shelf_laws.proofs.TableSteps.{EvaluatesWith-more, EvaluatesWith-bind}
 use Rattle.shelf_laws.proofs.Tokens.{fresh_settled}
 use Rattle.shelf_laws.proofs.WiderRows.{EvaluatesWith-lifted, EvaluatesWith-itself, EvaluatesTo-is, AlwaysOk-lifted, Preserves-lifted}
-use Rattle.sig_settings.specs.Keys.{manifest_key, pull_key, referrers_key}
-use Rattle.sig_settings.proofs.Tells.{manifest_keys_tell, pull_keys_tell, referrers_keys_tell}
-use Rattle.sig_answers.specs.Answers.{is_of, is_fresh, same_kind, kind_of, given_at, keep, entry, within as in_bounds}
-use Rattle.sig_answers.specs.declared.answer.Answer.{Answer}
-use Rattle.sig_answers.specs.declared.answer.Answer.TheVariants.{Digest, Manifest, Image, Referrers}
-use Rattle.sig_answers.specs.declared.answers.Answers.{Answers}
-use Rattle.sig_answers.specs.declared.answers.Bounds.{Bounds}
-use Rattle.sig_answers.specs.declared.answers.Entry.{Entry}
-use Rattle.sig_calls.specs.Caching.{Cache, known, keeping, known_or, recalled, cached}
-use Rattle.sig_calls.specs.Calls.{digests, manifests, images, referrers, digest_made, manifest_made, image_made, referrers_made, digest_call, manifest_call, image_call, referrers_call}
-use Rattle.sig_calls.specs.Clients.{Kept, Plain}
-use Rattle.sig_calls.specs.declared.error.SigstoreError.{SigstoreError}
-use Rattle.sig_calls.specs.Clients.{no_answers}
-use Rattle.cosign_rows.specs.Settled.{IsGiven, IsOf, IsAnswer, IsFromShelf, AreFromShelf, IsSettled}
+use Rattle.registry_cache.specs.Keys.{manifest_key, pull_key, referrers_key}
+use Rattle.registry_cache.proofs.Tells.{manifest_keys_tell, pull_keys_tell, referrers_keys_tell}
+use Rattle.registry_cache.specs.Answers.{is_of, is_fresh, same_kind, kind_of, given_at, keep, entry, within as in_bounds}
+use Rattle.registry_cache.specs.declared.answer.Answer.{Answer}
+use Rattle.registry_cache.specs.declared.answer.Answer.TheVariants.{Digest, Manifest, Image, Referrers}
+use Rattle.registry_cache.specs.declared.answers.Answers.{Answers}
+use Rattle.registry_cache.specs.declared.answers.Bounds.{Bounds}
+use Rattle.registry_cache.specs.declared.answers.Entry.{Entry}
+use Rattle.registry_calls.specs.Caching.{keeping, known_or, recalled, cached}
+use Rattle.registry_cache.specs.Caching.{Cache, known}
+use Rattle.registry_calls.specs.Calls.{digest_made, manifest_made, image_made, referrers_made, digest_call, manifest_call, image_call, referrers_call}
+use Rattle.registry_cache.specs.KeptCalls.{digests, manifests, images, referrers}
+use Rattle.registry_calls.specs.Clients.{Kept, Plain}
+use Rattle.registry_calls.specs.declared.error.SigstoreError.{SigstoreError}
+use Rattle.registry_calls.specs.Clients.{no_answers}
+use Rattle.cosign_shelves.specs.Settled.{IsGiven, IsOf, IsAnswer, IsFromShelf, AreFromShelf, IsSettled}
 
 -- ---- texts of references
 

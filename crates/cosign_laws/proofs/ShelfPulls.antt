@@ -44,15 +44,15 @@ use Rattle.engine_terms.specs.declared.settings.Settings.{Settings}
 use Rattle.engine_rows.specs.Rows.{Row as Engine}
 use Rattle.engine_rows.specs.declared.image.ImageData.{ImageData}
 use Rattle.engine_rows.specs.Image.{layers_accepted, layer_of, config_of}
-use Rattle.sig_calls.specs.declared.error.SigstoreError.{SigstoreError}
-use Rattle.sig_calls.specs.declared.error.SigstoreError.TheVariants as sigstore
-use Rattle.sig_calls.specs.declared.error_context.Called.{Called}
-use Rattle.sig_calls.specs.declared.error_context.Called.TheVariants.{FetchManifest, Pull, PullManifest}
-use Rattle.sig_calls.specs.Error.{is_memory as of_memory}
-use Rattle.sig_calls.specs.ErrorContext.{with_error_context}
-use Rattle.sig_calls.specs.Clients.{Kept, Row}
-use Rattle.sig_calls.specs.Calls.{in_words, digest_made, manifest_made, image_made, document_made, blob_made, referrers_made, document_call, blob_call, referrers_call}
-use Rattle.sig_answers.specs.declared.answers.Answers.{Answers}
+use Rattle.registry_calls.specs.declared.error.SigstoreError.{SigstoreError}
+use Rattle.registry_calls.specs.declared.error.SigstoreError.TheVariants as sigstore
+use Rattle.registry_calls.specs.declared.error_context.Called.{Called}
+use Rattle.registry_calls.specs.declared.error_context.Called.TheVariants.{FetchManifest, Pull, PullManifest}
+use Rattle.registry_calls.specs.Error.{is_memory as of_memory}
+use Rattle.registry_calls.specs.ErrorContext.{with_error_context}
+use Rattle.registry_calls.specs.Clients.{Kept, Row}
+use Rattle.registry_calls.specs.Calls.{in_words, digest_made, manifest_made, image_made, document_made, blob_made, referrers_made, document_call, blob_call, referrers_call}
+use Rattle.registry_cache.specs.declared.answers.Answers.{Answers}
 use Rattle.shelf_laws.specs.EvaluatesWith.{Yields, OrMemory, AlwaysOk, Reaches}
 use Rattle.shelf_laws.specs.IsHosted.{IsHosted, IsAt, CanBeShown, Settled}
 use Rattle.shelf_laws.specs.Shelves.{HasBlob, HasLayer, LeadsTo, ImageOn, layers_on}
@@ -67,10 +67,10 @@ use Rattle.shelf_laws.proofs.Requests.{yields_ok}
 use Rattle.shelf_laws.proofs.ReferrersOfShelf.{referrers_give}
 use Rattle.shelf_laws.proofs.WiderRows.{AlwaysOk-lifted}
 use Rattle.shelf_laws.proofs.Tokens.{given_gives}
-use Rattle.cosign_layers.specs.Constraint.{has_no_item}
+use Rattle.cosign_parts.specs.Items.{has_no_item}
 use Rattle.cosign_layers.specs.Satisfying.{PolicyContext, StandsFor}
-use Rattle.cosign_layers.specs.Trust.{Trust}
-use Rattle.cosign_layers.specs.declared.layer.SignatureLayer.{SignatureLayer}
+use Rattle.cosign_parts.specs.Trust.{Trust}
+use Rattle.cosign_parts.specs.declared.layer.SignatureLayer.{SignatureLayer}
 use Rattle.cosign_layers.proofs.SatisfiesPolicy.{stands_by as supports_stand}
 use Rattle.cosign_chain.specs.declared.image.VerifiedImage.{VerifiedImage}
 use Rattle.cosign_rows.specs.Image.{named_by_reference, document_in, entry_in, layers_row, blobs_row, with_image, entry_call, entry_row, manifest_row, after_document, image_row}
@@ -78,7 +78,7 @@ use Rattle.cosign_rows.specs.Part.{nothing, skipping, appended, layer_part, name
 use Rattle.cosign_rows.specs.References.{signature_tag, tag_reference, digest_reference, or_not_valid, reading_back}
 use Rattle.cosign_rows.specs.Refusal.{is_memory, refused_as}
 use Rattle.cosign_rows.specs.Search.{payload_type, document_part, tag_layers, or_skipped, tag_by, tag_source, bundle_type, referrer_part, referrer_by, referrer_row, referrers_row, listed_row, referrers_source, trusted_layers, searched}
-use Rattle.cosign_rows.specs.Settled.{AreFromShelf, IsSettled}
+use Rattle.cosign_shelves.specs.Settled.{AreFromShelf, IsSettled}
 use Rattle.cosign_rows.specs.Tails.{after_search}
 use Rattle.cosign_rows.specs.Verified.{Whole, constrained, is_unconstrained, readable_by, readable, as_whole, part_of, stands_by, signed_digest, standing, verified_image, verified}
 use Rattle.cosign_rows.specs.declared.found.Part.{Part}
@@ -90,7 +90,7 @@ use Rattle.cosign_rows.specs.declared.found.SourceKind.TheVariants.{Tag as ByTag
 use Rattle.cosign_rows.specs.declared.found.TrustedLayers.{TrustedLayers}
 use Rattle.cosign_rows.specs.declared.refusal.PullRefusal.{PullRefusal}
 use Rattle.cosign_rows.specs.declared.refusal.PullRefusal.TheVariants as refusal
-use Rattle.cosign_rows.specs.Shelves.{IsAsked, SignedByTag, SignedByReferrer, ImageShelf, WideShelf, ValidShelf, AnswersFrom, OkOrMemory}
+use Rattle.cosign_shelves.specs.Shelves.{IsAsked, SignedByTag, SignedByReferrer, ImageShelf, WideShelf, ValidShelf, AnswersFrom, OkOrMemory}
 use Rattle.cosign_laws.proofs.ShelfCalls.{digest_given, manifest_given, image_given, referrers_given}
 use Rattle.cosign_laws.proofs.ShelfStays.{home_of, image_at, tag_at, digest_at, referrer_at, entry_at, tag_stays, listing_stays, referrer_stays, verified_stays}
 

@@ -25,13 +25,13 @@ use Rattle.engine_requests.specs.Sources.{Layer, described}
 use Rattle.engine_terms.specs.declared.settings.Settings.{Settings}
 use Rattle.engine_rows.specs.Rows.{Row as Engine}
 use Rattle.engine_rows.specs.Image.{layers_accepted, layer_of}
-use Rattle.sig_answers.specs.declared.answers.Answers.{Answers}
-use Rattle.sig_calls.specs.declared.error.SigstoreError.{SigstoreError}
-use Rattle.sig_calls.specs.declared.error_context.Called.{Called}
-use Rattle.sig_calls.specs.declared.error_context.Called.TheVariants.{FetchManifest, Pull, PullManifest}
-use Rattle.sig_calls.specs.ErrorContext.{with_error_context}
-use Rattle.sig_calls.specs.Clients.{Kept, Row}
-use Rattle.sig_calls.specs.Calls.{in_words, digest_made, manifest_made, image_made, document_made, blob_made, referrers_made, document_call, blob_call, referrers_call, image_call}
+use Rattle.registry_cache.specs.declared.answers.Answers.{Answers}
+use Rattle.registry_calls.specs.declared.error.SigstoreError.{SigstoreError}
+use Rattle.registry_calls.specs.declared.error_context.Called.{Called}
+use Rattle.registry_calls.specs.declared.error_context.Called.TheVariants.{FetchManifest, Pull, PullManifest}
+use Rattle.registry_calls.specs.ErrorContext.{with_error_context}
+use Rattle.registry_calls.specs.Clients.{Kept, Row}
+use Rattle.registry_calls.specs.Calls.{in_words, digest_made, manifest_made, image_made, document_made, blob_made, referrers_made, document_call, blob_call, referrers_call, image_call}
 use Rattle.shelf_laws.specs.EvaluatesWith.{Preserves}
 use Rattle.shelf_laws.specs.IsHosted.{IsHosted, IsAt, CanBeShown, Settled}
 use Rattle.shelf_laws.proofs.TableSteps.{AlwaysOk-stays, Preserves-done, Preserves-bind, Preserves-next}
@@ -43,8 +43,8 @@ use Rattle.cosign_layers.specs.Satisfying.{PolicyContext}
 use Rattle.cosign_rows.specs.Image.{document_in, entry_in, layers_row, blobs_row, with_image, entry_call, entry_row, manifest_row, image_row}
 use Rattle.cosign_rows.specs.References.{tag_reference, digest_reference, reading_back}
 use Rattle.cosign_rows.specs.Search.{payload_type, tag_layers, or_skipped, tag_by, tag_source, bundle_type, referrer_part, referrer_by, referrer_row, referrers_row, listed_row, referrers_source, searched}
-use Rattle.cosign_rows.specs.Settled.{AreFromShelf}
-use Rattle.cosign_rows.specs.Shelves.{IsAsked}
+use Rattle.cosign_shelves.specs.Settled.{AreFromShelf}
+use Rattle.cosign_shelves.specs.Shelves.{IsAsked}
 use Rattle.cosign_rows.specs.Tails.{after_search}
 use Rattle.cosign_rows.specs.Verified.{constrained, is_unconstrained, readable, as_whole, part_of, standing, verified}
 use Rattle.cosign_rows.specs.declared.found.SourceKind.TheVariants.{Tag}

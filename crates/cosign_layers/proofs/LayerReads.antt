@@ -6,20 +6,20 @@ use Rattle.base64.specs.GeneralPurpose.{decoded_of}
 use Rattle.oci_digests.specs.Names.{Names, names}
 use Rattle.oci_digests.proofs.Equal.{named}
 use Rattle.cosign_layers.specs.Checks.{Input, Spelled, unless, content_checked, signature_checked, entry_verified, entry_found, entry_checked, certificate_signature, certificate_vouched, certificate_checked}
-use Rattle.cosign_layers.specs.Layer.{IsSignature, IsLogged, IsEntry, IsCertificate, is_logged, evidence}
-use Rattle.cosign_layers.specs.LogEntry.{LogSigned, log_text}
+use Rattle.cosign_parts.specs.Layer.{IsSignature, IsLogged, IsEntry, IsCertificate, is_logged, evidence}
+use Rattle.cosign_parts.specs.LogEntry.{LogSigned, log_text}
 use Rattle.cosign_layers.specs.Read.{IsAbout, ContentRejected, SignatureRejected, EntryRejected, CertificateRejected}
-use Rattle.cosign_layers.specs.Shown.{shown, is_about}
-use Rattle.cosign_layers.specs.Trust.{Trust, knows_no_log}
-use Rattle.cosign_layers.specs.declared.certificate.CertificateSignature.{CertificateSignature}
-use Rattle.cosign_layers.specs.declared.certificate.Vouched.{Vouched}
-use Rattle.cosign_layers.specs.declared.log_entry.LogEntryBundle.{LogEntryBundle}
+use Rattle.cosign_parts.specs.Shown.{shown, is_about}
+use Rattle.cosign_parts.specs.Trust.{Trust, knows_no_log}
+use Rattle.cosign_parts.specs.declared.certificate.CertificateSignature.{CertificateSignature}
+use Rattle.cosign_parts.specs.declared.certificate.Vouched.{Vouched}
+use Rattle.cosign_parts.specs.declared.log_entry.LogEntryBundle.{LogEntryBundle}
 use Rattle.cosign_layers.specs.declared.rejection.LayerPart.TheVariants.{Content, Signature, LogEntry, Certificate}
 use Rattle.cosign_layers.specs.declared.rejection.LayerRejection.{LayerRejection}
 use Rattle.cosign_layers.specs.declared.rejection.LayerRejection.TheVariants.{DigestMismatch, Unreadable, OtherDigest, NoSignature, UnknownLogKey, BadLogSignature, OtherLogEntry, NoLogEntry, NotVouched, LayerNotPulled, WantOfMemory}
-use Rattle.cosign_layers.specs.declared.shown.Found.{Found}
-use Rattle.cosign_layers.specs.declared.shown.Found.TheVariants as founds
-use Rattle.cosign_layers.specs.declared.shown.Shown.{Shown}
+use Rattle.cosign_parts.specs.declared.shown.Found.{Found}
+use Rattle.cosign_parts.specs.declared.shown.Found.TheVariants as founds
+use Rattle.cosign_parts.specs.declared.shown.Shown.{Shown}
 use Rattle.cosign_layers.proofs.Outcomes.{Decides, both, reworded, tested, needed, answered, ok_same, ok_err, err_ok, err_same}
 
 false_true : {P : Type 0} (b : Bool) → b ≡ false → b ≡ true → P

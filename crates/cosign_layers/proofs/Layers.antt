@@ -2,18 +2,18 @@
 use Rattle.std.proofs.Common.{◌≡◌, ◌⊎◌, inl, inr, ℕ, Bool, true, false, IsTrue, List, Option, IsSomeAnd, Result, Ok, Err, IfOk, IfErr, refl, sym, ap, ◌∙◌, subst}
 use Rattle.std.specs.Prelude.{MatchBool}
 use Rattle.cosign_layers.specs.Checks.{Input, Spelled, content_checked, signature_checked, entry_checked, certificate_checked, layer_with, layer_read}
-use Rattle.cosign_layers.specs.Layer.{IsSignature, IsEntry, IsCertificate, LayerOf, IsAboutImage}
+use Rattle.cosign_parts.specs.Layer.{IsSignature, IsEntry, IsCertificate, LayerOf, IsAboutImage}
 use Rattle.cosign_layers.specs.Read.{IsAbout, ContentRejected, SignatureRejected, EntryRejected, CertificateRejected, Rejected, RejectedUnlessMemory, input_of, Gives, HasOneOutcome}
 use Rattle.cosign_layers.specs.Rejection.{Matches, is_memory}
-use Rattle.cosign_layers.specs.Shown.{is_about}
-use Rattle.cosign_layers.specs.Trust.{Trust, knows_no_log}
-use Rattle.cosign_layers.specs.declared.certificate.CertificateSignature.{CertificateSignature}
-use Rattle.cosign_layers.specs.declared.layer.SignatureLayer.{SignatureLayer}
-use Rattle.cosign_layers.specs.declared.layer.SimpleSigning.{SimpleSigning}
-use Rattle.cosign_layers.specs.declared.log_entry.LogEntryBundle.{LogEntryBundle}
+use Rattle.cosign_parts.specs.Shown.{is_about}
+use Rattle.cosign_parts.specs.Trust.{Trust, knows_no_log}
+use Rattle.cosign_parts.specs.declared.certificate.CertificateSignature.{CertificateSignature}
+use Rattle.cosign_parts.specs.declared.layer.SignatureLayer.{SignatureLayer}
+use Rattle.cosign_parts.specs.declared.layer.SimpleSigning.{SimpleSigning}
+use Rattle.cosign_parts.specs.declared.log_entry.LogEntryBundle.{LogEntryBundle}
 use Rattle.cosign_layers.specs.declared.rejection.LayerRejection.{LayerRejection}
 use Rattle.cosign_layers.specs.declared.rejection.LayerRejection.TheVariants.{WantOfMemory}
-use Rattle.cosign_layers.specs.declared.shown.Shown.{Shown}
+use Rattle.cosign_parts.specs.declared.shown.Shown.{Shown}
 use Rattle.cosign_layers.proofs.Outcomes.{Decides, both, reworded, answered, ok_same, ok_err, err_same}
 use Rattle.cosign_layers.proofs.LayerReads.{content, signature, entry, certificate}
 

@@ -1,11 +1,6 @@
-pub mod Decimals
 pub mod LayerReads
 pub mod Layers
 pub mod Loops
 pub mod Outcomes
-pub mod Ranges
-pub mod Rows
-pub mod Shows
-pub mod Steps
 pub mod SatisfiesPolicy
-pub mod Texts
+pub mod Steps

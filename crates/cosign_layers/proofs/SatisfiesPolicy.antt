@@ -5,11 +5,11 @@ use Rattle.std.proofs.lemmas.List.Sums.{AllPass-from_list_all, list_all-from_All
 use Rattle.std.specs.Option.{option_map_or}
 use Rattle.base64.specs.Engines.{standard}
 use Rattle.base64.specs.GeneralPurpose.{decoded_of}
-use Rattle.cosign_layers.specs.Layer.{LayerOf, IsAboutImage}
+use Rattle.cosign_parts.specs.Layer.{LayerOf, IsAboutImage}
 use Rattle.cosign_layers.specs.Satisfying.{PolicyContext, CustomVerdict, signs, SignedUnder, is_signed, Signed, is_accepted, satisfies_policy, StandsFor, SatisfiesPolicy, text_of}
-use Rattle.cosign_layers.specs.Trust.{Valid}
-use Rattle.cosign_layers.specs.declared.certificate.CertificateSignature.{CertificateSignature}
-use Rattle.cosign_layers.specs.declared.layer.SignatureLayer.{SignatureLayer}
+use Rattle.cosign_parts.specs.Trust.{Valid}
+use Rattle.cosign_parts.specs.declared.certificate.CertificateSignature.{CertificateSignature}
+use Rattle.cosign_parts.specs.declared.layer.SignatureLayer.{SignatureLayer}
 use Rattle.cosign_layers.specs.declared.policy.PullPolicy.{PullPolicy}
 
 under : (valid : Valid) (keys : List (List ℕ)) (c : Option CertificateSignature) (text bytes : List ℕ) → signs valid keys c text bytes ≡ true → SignedUnder valid keys c text bytes

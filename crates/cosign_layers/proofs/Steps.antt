@@ -4,12 +4,12 @@ use Rattle.std.specs.Prelude.{MatchBool}
 use Rattle.std.specs.Result.{IsErrAnd}
 use Rattle.cosign_layers.specs.Checks.{Input, Spelled, content_checked, signature_checked, entry_checked, certificate_checked, layer_with, layer_read}
 use Rattle.cosign_layers.specs.Rejection.{◌>>=◌, Matches, is_memory}
-use Rattle.cosign_layers.specs.Trust.{Trust}
-use Rattle.cosign_layers.specs.declared.certificate.CertificateSignature.{CertificateSignature}
-use Rattle.cosign_layers.specs.declared.layer.SignatureLayer.{SignatureLayer}
-use Rattle.cosign_layers.specs.declared.log_entry.LogEntryBundle.{LogEntryBundle}
+use Rattle.cosign_parts.specs.Trust.{Trust}
+use Rattle.cosign_parts.specs.declared.certificate.CertificateSignature.{CertificateSignature}
+use Rattle.cosign_parts.specs.declared.layer.SignatureLayer.{SignatureLayer}
+use Rattle.cosign_parts.specs.declared.log_entry.LogEntryBundle.{LogEntryBundle}
 use Rattle.cosign_layers.specs.declared.rejection.LayerRejection.{LayerRejection}
-use Rattle.cosign_layers.specs.declared.shown.Shown.{Shown}
+use Rattle.cosign_parts.specs.declared.shown.Shown.{Shown}
 use Rattle.cosign_layers.proofs.Outcomes.{after, stopped}
 
 -- the step returned this rejection, unless memory ran out

@@ -5,24 +5,24 @@ use Rattle.std.specs.FinMap.{get}
 use Rattle.base64.specs.Engines.{standard}
 use Rattle.base64.specs.GeneralPurpose.{decoded_of}
 use Rattle.oci_digests.specs.Names.{names}
-use Rattle.cosign_layers.specs.Layer.{is_logged, evidence}
-use Rattle.cosign_layers.specs.LogEntry.{log_text}
+use Rattle.cosign_parts.specs.Layer.{is_logged, evidence}
+use Rattle.cosign_parts.specs.LogEntry.{log_text}
 use Rattle.cosign_layers.specs.Rejection.{◌>>=◌}
-use Rattle.cosign_layers.specs.Shown.{Notes, shown, is_about}
-use Rattle.cosign_layers.specs.Trust.{Trust, Vouching, knows_no_log}
-use Rattle.cosign_layers.specs.declared.certificate.CertificateSignature.{CertificateSignature}
-use Rattle.cosign_layers.specs.declared.certificate.Vouched.{Vouched}
+use Rattle.cosign_parts.specs.Shown.{Notes, shown, is_about}
+use Rattle.cosign_parts.specs.Trust.{Trust, Vouching, knows_no_log}
+use Rattle.cosign_parts.specs.declared.certificate.CertificateSignature.{CertificateSignature}
+use Rattle.cosign_parts.specs.declared.certificate.Vouched.{Vouched}
 use Rattle.cosign_layers.specs.declared.checks.Came.{Came}
 use Rattle.cosign_layers.specs.declared.checks.Pulled.{Pulled}
-use Rattle.cosign_layers.specs.declared.layer.LayerKind.{LayerKind}
-use Rattle.cosign_layers.specs.declared.layer.SignatureLayer.{SignatureLayer}
-use Rattle.cosign_layers.specs.declared.log_entry.LogEntryBundle.{LogEntryBundle}
+use Rattle.cosign_parts.specs.declared.layer.LayerKind.{LayerKind}
+use Rattle.cosign_parts.specs.declared.layer.SignatureLayer.{SignatureLayer}
+use Rattle.cosign_parts.specs.declared.log_entry.LogEntryBundle.{LogEntryBundle}
 use Rattle.cosign_layers.specs.declared.rejection.LayerPart.TheVariants.{Content, Signature, LogEntry, Certificate}
 use Rattle.cosign_layers.specs.declared.rejection.LayerRejection.{LayerRejection}
 use Rattle.cosign_layers.specs.declared.rejection.LayerRejection.TheVariants as rejections
-use Rattle.cosign_layers.specs.declared.shown.Found.{Found}
-use Rattle.cosign_layers.specs.declared.shown.Found.TheVariants as founds
-use Rattle.cosign_layers.specs.declared.shown.Shown.{Shown}
+use Rattle.cosign_parts.specs.declared.shown.Found.{Found}
+use Rattle.cosign_parts.specs.declared.shown.Found.TheVariants as founds
+use Rattle.cosign_parts.specs.declared.shown.Shown.{Shown}
 
 -- what is read: the kind of the layer, its content, the digest by which it was pulled, and its annotations
 pub record Input : Type 0 where

@@ -1,5 +1,5 @@
 -- What the built-in constraints accept.
-use Rattle.std.specs.Prelude.{ℕ, List, [], ◌∷◌, Bool, true, false, ◌&&◌, Option, Some, None, option_and_then}
+use Rattle.std.specs.Prelude.{ℕ, List, Bool, false, ◌&&◌, Option, Some, None, option_and_then}
 use Rattle.std.specs.FinMap.{FinMap, entries}
 use Rattle.std.specs.List.{list_all}
 use Rattle.std.specs.declared.alloc.Global.{Global}
@@ -7,22 +7,19 @@ use Rattle.std.specs.declared.dyn_box.DynBox.{DynBox}
 use Rattle.json_values.specs.Places.{by_bytes}
 use Rattle.serde_json.specs.Data.{Data}
 use Rattle.serde_json.specs.Find.{get, as_str}
-use Rattle.cosign_layers.specs.declared.certificate.CertificateSignature.{CertificateSignature}
+use Rattle.cosign_parts.specs.declared.certificate.CertificateSignature.{CertificateSignature}
 use Rattle.cosign_layers.specs.declared.constraint.Constraint.{Constraint}
 use Rattle.cosign_layers.specs.declared.constraint.Constraint.TheVariants.{Annotations, Email, Url, Own}
-use Rattle.cosign_layers.specs.declared.layer.SignatureLayer.{SignatureLayer}
-use Rattle.cosign_layers.specs.declared.layer.SimpleSigning.{SimpleSigning}
+use Rattle.cosign_parts.specs.declared.layer.SignatureLayer.{SignatureLayer}
+use Rattle.cosign_parts.specs.declared.layer.SimpleSigning.{SimpleSigning}
 use Rattle.cosign_layers.specs.declared.subject.CertSubjectEmailVerifier.{CertSubjectEmailVerifier}
 use Rattle.cosign_layers.specs.declared.subject.CertSubjectUrlVerifier.{CertSubjectUrlVerifier}
 use Rattle.cosign_layers.specs.Subject.{is_text, has_issuer}
+use Rattle.cosign_parts.specs.Items.{has_no_item}
 
 -- the data has a member of this name with this string
 abbrev pub has_text_member : Data → List ℕ × List ℕ → Bool
 has_text_member d pair = is_text pair.1 (option_and_then as_str (get pair.0 d))
-
-abbrev pub has_no_item : {A : Type 0} → List A → Bool
-has_no_item [] = true
-has_no_item (x ∷ xs) = false
 
 -- each pair is a string member of `optional`; without a payload no pair is
 abbrev pub has_annotations : FinMap by_bytes (List ℕ) → Option SimpleSigning → Bool

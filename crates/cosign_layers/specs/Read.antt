@@ -5,19 +5,19 @@ use Rattle.base64.specs.Engines.{standard}
 use Rattle.base64.specs.GeneralPurpose.{decoded_of}
 use Rattle.oci_digests.specs.Names.{Names}
 use Rattle.cosign_layers.specs.Checks.{Input}
-use Rattle.cosign_layers.specs.Layer.{LayerOf, IsAboutImage, IsSignature, IsEntry, is_logged, evidence}
-use Rattle.cosign_layers.specs.LogEntry.{LogSigned, log_text}
+use Rattle.cosign_parts.specs.Layer.{LayerOf, IsAboutImage, IsSignature, IsEntry, is_logged, evidence}
+use Rattle.cosign_parts.specs.LogEntry.{LogSigned, log_text}
 use Rattle.cosign_layers.specs.Rejection.{is_memory}
-use Rattle.cosign_layers.specs.Shown.{shown, is_about}
-use Rattle.cosign_layers.specs.Trust.{Trust, knows_no_log}
-use Rattle.cosign_layers.specs.declared.layer.SignatureLayer.{SignatureLayer}
-use Rattle.cosign_layers.specs.declared.log_entry.LogEntryBundle.{LogEntryBundle}
+use Rattle.cosign_parts.specs.Shown.{shown, is_about}
+use Rattle.cosign_parts.specs.Trust.{Trust, knows_no_log}
+use Rattle.cosign_parts.specs.declared.layer.SignatureLayer.{SignatureLayer}
+use Rattle.cosign_parts.specs.declared.log_entry.LogEntryBundle.{LogEntryBundle}
 use Rattle.cosign_layers.specs.declared.rejection.LayerPart.TheVariants.{Content, Signature, LogEntry, Certificate}
 use Rattle.cosign_layers.specs.declared.rejection.LayerRejection.{LayerRejection}
 use Rattle.cosign_layers.specs.declared.rejection.LayerRejection.TheVariants as rejections
-use Rattle.cosign_layers.specs.declared.shown.Found.{Found}
-use Rattle.cosign_layers.specs.declared.shown.Found.TheVariants as founds
-use Rattle.cosign_layers.specs.declared.shown.Shown.{Shown}
+use Rattle.cosign_parts.specs.declared.shown.Found.{Found}
+use Rattle.cosign_parts.specs.declared.shown.Found.TheVariants as founds
+use Rattle.cosign_parts.specs.declared.shown.Shown.{Shown}
 
 -- the digest names the content, which has the form of its kind
 pub record HasContent (input : Input) (shows : Shown) : Type 0 where

@@ -7,11 +7,11 @@ use Rattle.std.specs.declared.dyn_box.DynBox.{DynBox}
 use Rattle.base64.specs.Engines.{standard}
 use Rattle.base64.specs.GeneralPurpose.{decoded_of}
 use Rattle.cosign_layers.specs.Constraint.{accepts}
-use Rattle.cosign_layers.specs.Layer.{LayerOf, IsAboutImage}
-use Rattle.cosign_layers.specs.Envelope.{signed_text}
-use Rattle.cosign_layers.specs.Trust.{Trust, Valid}
-use Rattle.cosign_layers.specs.declared.certificate.CertificateSignature.{CertificateSignature}
-use Rattle.cosign_layers.specs.declared.layer.SignatureLayer.{SignatureLayer}
+use Rattle.cosign_parts.specs.Layer.{LayerOf, IsAboutImage}
+use Rattle.cosign_parts.specs.Envelope.{signed_text}
+use Rattle.cosign_parts.specs.Trust.{Trust, Valid}
+use Rattle.cosign_parts.specs.declared.certificate.CertificateSignature.{CertificateSignature}
+use Rattle.cosign_parts.specs.declared.layer.SignatureLayer.{SignatureLayer}
 use Rattle.cosign_layers.specs.declared.policy.PullPolicy.{PullPolicy}
 
 -- what the caller passes in: the policy, the verdicts of custom constraints, and whom the reader of layers trusts

@@ -3,18 +3,15 @@ ghost use Rattle.std.specs.Prelude.{◌≡◌, IfOk};
 ghost use Rattle.cosign_layers.specs.Checks.{came_from, certificate_checked, certificate_vouched};
 ghost use Rattle.cosign_layers.specs.Checks.{content_checked, entry_checked, entry_found, entry_verified};
 ghost use Rattle.cosign_layers.specs.Checks.{input_from, layer_read, layer_with, signature_checked};
-ghost use Rattle.cosign_layers.specs.Layer.{is_logged};
+ghost use Rattle.cosign_parts.specs.Layer.{is_logged};
 ghost use Rattle.cosign_layers.specs.Rejection.{Matches};
-ghost use Rattle.cosign_layers.specs.Trust.{trust_of};
+ghost use Rattle.cosign_parts.specs.Trust.{trust_of};
 
-use crate::certificate::{CertificateSignature, Evidence};
-use crate::judge::Offline;
-use crate::layer::{LayerKind, SignatureLayer};
-use crate::log_entry::{LogEntryBundle, log_text, logs};
 use crate::rejection::{LayerPart, LayerRejection};
-use crate::shown::{Found, Shown, is_about, show};
-use crate::trust::Trusted;
-use crate::verifier::SignatureVerifier;
+use cosign_parts::{
+    CertificateSignature, Evidence, Found, LayerKind, LogEntryBundle, Offline, Shown,
+    SignatureLayer, SignatureVerifier, Trusted, is_about, log_text, logs, show,
+};
 use json_tables::decode_base64;
 use json_values::{Annotations, Blob, Copied, Text};
 use oci_digests::names_digest;

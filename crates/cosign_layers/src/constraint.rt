@@ -3,10 +3,10 @@ ghost use Rattle.std.specs.Prelude.{◌≡◌, ℕ, List, Bool, IfOk};
 ghost use Rattle.std.specs.List.{list_all};
 ghost use Rattle.serde_json.specs.View.{view};
 ghost use Rattle.cosign_layers.specs.Constraint.{accepts as accepts_by, has_text_member};
-ghost use Rattle.cosign_layers.specs.declared.layer.SignatureLayer.{SignatureLayer};
+ghost use Rattle.cosign_parts.specs.declared.layer.SignatureLayer.{SignatureLayer};
 
-use crate::layer::SignatureLayer;
 use crate::subject::{CertSubjectEmailVerifier, CertSubjectUrlVerifier};
+use cosign_parts::SignatureLayer;
 use json_values::{Annotations, Copied, Text};
 use serde_json::Value;
 use std::alloc::{AllocError, Global};

@@ -3,16 +3,12 @@ ghost use Rattle.std.specs.Prelude.{IfOk, IfErr};
 ghost use Rattle.cosign_layers.specs.Checks.{input, layer_read};
 ghost use Rattle.cosign_layers.specs.Read.{Gives, HasOneOutcome, RejectedUnlessMemory};
 ghost use Rattle.cosign_layers.specs.Rejection.{Matches};
-ghost use Rattle.cosign_layers.specs.Trust.{trust};
-ghost use Rattle.cosign_layers.specs.declared.layer.LayerKind.TheVariants as kinds;
+ghost use Rattle.cosign_parts.specs.Trust.{trust};
+ghost use Rattle.cosign_parts.specs.declared.layer.LayerKind.TheVariants as kinds;
 
 use crate::checks::{Pulled, read_layer};
-use crate::judge::Offline;
-use crate::layer::{LayerKind, SignatureLayer};
-use crate::policy::LogKeys;
 use crate::rejection::LayerRejection;
-use crate::trust::Trusted;
-use crate::verifier::SignatureVerifier;
+use cosign_parts::{LayerKind, LogKeys, Offline, SignatureLayer, SignatureVerifier, Trusted};
 use json_values::{Annotations, Blob};
 use std::alloc::Global;
 

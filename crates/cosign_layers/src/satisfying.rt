@@ -7,12 +7,11 @@ ghost use Rattle.base64.specs.GeneralPurpose.{decoded_of};
 ghost use Rattle.cosign_layers.specs.Constraint.{accepts as accepts_by};
 ghost use Rattle.cosign_layers.specs.Satisfying.{is_accepted, is_signed, is_signed_by, signs, satisfies_policy, SatisfiesPolicy, text_of};
 
-use crate::certificate::CertificateSignature;
 use crate::constraint::Constraint;
-use crate::envelope::enveloped_text;
-use crate::layer::{LayerKind, SignatureLayer};
 use crate::policy::PullPolicy;
-use crate::verifier::SignatureVerifier;
+use cosign_parts::{
+    CertificateSignature, LayerKind, SignatureLayer, SignatureVerifier, enveloped_text,
+};
 use json_tables::decode_base64;
 use json_values::Blob;
 use std::alloc::{AllocError, Global};

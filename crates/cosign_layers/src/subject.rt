@@ -4,7 +4,7 @@ ghost use Rattle.cosign_layers.specs.Constraint.{has_email, has_url};
 ghost use Rattle.cosign_layers.specs.Subject.{has_issuer, is_text};
 
 use crate::constraint::VerificationConstraint;
-use crate::layer::SignatureLayer;
+use cosign_parts::SignatureLayer;
 use json_values::{Copied, Text, copied};
 use std::alloc::{AllocError, Global};
 

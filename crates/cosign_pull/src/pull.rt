@@ -6,10 +6,10 @@ ghost use Rattle.engine_terms.specs.declared.settings.Settings.{Settings};
 ghost use Rattle.engine_terms.specs.Error.{Matches as SaysEngine};
 ghost use Rattle.engine_requests.specs.Requests.{listed, manifest_types};
 ghost use Rattle.engine_answers.specs.Index.{entry_found};
-ghost use Rattle.sig_calls.specs.Error.{is_memory, Matches};
-ghost use Rattle.sig_calls.specs.ErrorContext.{with_error_context};
-ghost use Rattle.sig_calls.specs.declared.error_context.Called.TheVariants.{Pull};
-ghost use Rattle.sig_calls.specs.Clients.{ClientMeets};
+ghost use Rattle.registry_calls.specs.Error.{is_memory, Matches};
+ghost use Rattle.registry_calls.specs.ErrorContext.{with_error_context};
+ghost use Rattle.registry_calls.specs.declared.error_context.Called.TheVariants.{Pull};
+ghost use Rattle.registry_calls.specs.Clients.{ClientMeets};
 ghost use Rattle.cosign_rows.specs.Image.{named_by_reference, document_in, entry_in, layers_row, blobs_row};
 ghost use Rattle.cosign_rows.specs.Image.{with_image, entry_call, entry_row, manifest_row};
 ghost use Rattle.cosign_rows.specs.Image.{after_document, image_row};
@@ -21,15 +21,14 @@ use engine_terms::OciDistributionError;
 use json_values::{Blob, Copied, List, Text};
 use oci_descriptors::{
     IMAGE_MANIFEST_LIST_MEDIA_TYPE, IMAGE_MANIFEST_MEDIA_TYPE, ImageIndexEntry,
-    OCI_IMAGE_INDEX_MEDIA_TYPE, OCI_IMAGE_MEDIA_TYPE, OciDescriptor,
+    OCI_IMAGE_INDEX_MEDIA_TYPE, OCI_IMAGE_MEDIA_TYPE, OciDescriptor, PlatformResolver,
 };
 use oci_digests::{DigestError, validate_digest};
 use oci_manifests::blob::Config;
 use oci_manifests::{ImageLayer, OciImageManifest, OciManifest};
 use oci_names::Reference;
-use oci_platforms::PlatformResolver;
 use oci_transport::Transport;
-use sig_calls::{Called, ClientCapabilities, SigstoreError, with_error_context};
+use registry_calls::{Called, ClientCapabilities, SigstoreError, with_error_context};
 use std::alloc::{AllocError, Global};
 
 // The four media types of manifests and indexes.

@@ -10,11 +10,11 @@ use Rattle.engine_terms.specs.Contexts.{within}
 use Rattle.engine_requests.specs.Sources.{described}
 use Rattle.engine_terms.specs.declared.settings.Settings.{Settings}
 use Rattle.engine_rows.specs.Image.{layer_of}
-use Rattle.sig_calls.specs.declared.error.SigstoreError.{SigstoreError}
-use Rattle.sig_calls.specs.Error.{is_memory}
-use Rattle.sig_calls.specs.Clients.{Client, ClientMeets}
-use Rattle.sig_calls.specs.Calls.{blob_call}
-use Rattle.cosign_layers.specs.Trust.{Trust}
+use Rattle.registry_calls.specs.declared.error.SigstoreError.{SigstoreError}
+use Rattle.registry_calls.specs.Error.{is_memory}
+use Rattle.registry_calls.specs.Clients.{Client, ClientMeets}
+use Rattle.registry_calls.specs.Calls.{blob_call}
+use Rattle.cosign_parts.specs.Trust.{Trust}
 use Rattle.cosign_rows.specs.declared.found.Part.{Part}
 use Rattle.cosign_rows.specs.Part.{appended, descriptor_part, descriptors_part, nothing}
 use Rattle.cosign_rows.specs.Image.{layers_row}

@@ -10,12 +10,12 @@ use Rattle.oci_protocol.proofs.Laws.{Meets-next, Meets-refused, Meets-ok, Meets-
 use Rattle.engine_terms.specs.Contexts.{Context}
 use Rattle.engine_terms.specs.declared.settings.Settings.{Settings}
 use Rattle.oci_auth.specs.declared.auth.RegistryAuth.{RegistryAuth}
-use Rattle.sig_calls.specs.Calls.{digest_call}
-use Rattle.sig_calls.specs.declared.error.SigstoreError.{SigstoreError}
-use Rattle.sig_calls.specs.declared.error.SigstoreError.TheVariants as sigstore
+use Rattle.registry_calls.specs.Calls.{digest_call}
+use Rattle.registry_calls.specs.declared.error.SigstoreError.{SigstoreError}
+use Rattle.registry_calls.specs.declared.error.SigstoreError.TheVariants as sigstore
 use Rattle.engine_terms.specs.declared.error.OciDistributionError.{OciDistributionError}
 use Rattle.engine_terms.specs.Error.{is_memory as engine_is_memory, Matches as SaysEngine}
-use Rattle.sig_calls.specs.declared.error_context.Called.{Called}
+use Rattle.registry_calls.specs.declared.error_context.Called.{Called}
 use Rattle.cosign_rows.specs.declared.refusal.PullRefusal.{PullRefusal}
 use Rattle.cosign_rows.specs.Refusal.{is_memory as of_refusal, refused_as, Matches as SaysWhole}
 use Rattle.cosign_chain.specs.declared.image.VerifiedImage.{VerifiedImage}
@@ -28,10 +28,10 @@ use Rattle.cosign_rows.specs.declared.signed_digest.SignedDigest.{SignedDigest}
 use Rattle.cosign_rows.specs.declared.refusal.PullRefusal.TheVariants as refusal
 use Rattle.oci_names.specs.declared.reference.Reference.{Reference}
 use Rattle.oci_names.specs.Reference.{registry_of, repository_of, mirror_of, tag_of, digest_of}
-use Rattle.sig_calls.specs.declared.reference.OciReference.{OciReference}
-use Rattle.sig_calls.specs.Error.{is_memory, Matches}
-use Rattle.sig_calls.specs.ErrorContext.{with_error_context}
-use Rattle.sig_calls.specs.Clients.{Kept, Client, ClientMeets}
+use Rattle.registry_calls.specs.declared.reference.OciReference.{OciReference}
+use Rattle.registry_calls.specs.Error.{is_memory, Matches}
+use Rattle.registry_calls.specs.ErrorContext.{with_error_context}
+use Rattle.registry_calls.specs.Clients.{Kept, Client, ClientMeets}
 
 -- a step that succeeded, followed by the row that its result leads to
 pub and_then : {A B E : Type 0} {om : E → Bool} {s : Settings} {p : Proto Kept (Result A E)} (f : A → Proto Kept (Result B E)) {c d e : Client} {old mid new : Link} {a : A} {r : Result B E}

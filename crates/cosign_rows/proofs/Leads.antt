@@ -2,9 +2,9 @@
 use Rattle.std.proofs.Common.{Result}
 use Rattle.oci_transport.specs.Link.{Link}
 use Rattle.engine_terms.specs.declared.settings.Settings.{Settings}
-use Rattle.sig_calls.specs.declared.error.SigstoreError.{SigstoreError}
-use Rattle.sig_calls.specs.Error.{is_memory}
-use Rattle.sig_calls.specs.Clients.{Client, Row, ClientMeets}
+use Rattle.registry_calls.specs.declared.error.SigstoreError.{SigstoreError}
+use Rattle.registry_calls.specs.Error.{is_memory}
+use Rattle.registry_calls.specs.Clients.{Client, Row, ClientMeets}
 
 -- from the first client to the second, the run of `p` continues as a run of `q`
 pub record Leads {A : Type 0} (s : Settings) (p q : Row A) (c d : Client) (old mid : Link) : Type 0 where

@@ -21,12 +21,12 @@ use Rattle.engine_answers.specs.Documents.{document_read}
 use Rattle.engine_requests.specs.Sources.{described}
 use Rattle.engine_answers.specs.Index.{entry_found, entry_manifest, entry_reference}
 use Rattle.engine_rows.specs.Image.{layers_accepted, layer_of, config_of}
-use Rattle.sig_calls.specs.declared.error.SigstoreError.{SigstoreError}
-use Rattle.sig_calls.specs.declared.error.SigstoreError.TheVariants as sigstore
-use Rattle.sig_calls.specs.ErrorContext.{with_error_context}
-use Rattle.sig_calls.specs.declared.error_context.Called.TheVariants.{Pull}
-use Rattle.sig_calls.specs.Clients.{Row}
-use Rattle.sig_calls.specs.Calls.{document_call, blob_call}
+use Rattle.registry_calls.specs.declared.error.SigstoreError.{SigstoreError}
+use Rattle.registry_calls.specs.declared.error.SigstoreError.TheVariants as sigstore
+use Rattle.registry_calls.specs.ErrorContext.{with_error_context}
+use Rattle.registry_calls.specs.declared.error_context.Called.TheVariants.{Pull}
+use Rattle.registry_calls.specs.Clients.{Row}
+use Rattle.registry_calls.specs.Calls.{document_call, blob_call}
 use Rattle.cosign_rows.specs.declared.pulled.Pulled.{Pulled}
 use Rattle.cosign_rows.specs.declared.pulled.PulledManifest.{PulledManifest}
 

@@ -2,13 +2,11 @@ pub mod Causes
 pub mod DigestStep
 pub mod Image
 pub mod Part
-pub mod Snapshots
 pub mod References
 pub mod Refusal
 pub mod Search
-pub mod Settled
-pub mod Shelves
 pub mod Skips
+pub mod Snapshots
 pub mod Sound
 pub mod Tails
 pub mod Terms

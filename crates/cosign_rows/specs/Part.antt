@@ -6,9 +6,9 @@ use Rattle.oci_digests.specs.declared.digester.Algorithm.TheVariants.{Sha256}
 use Rattle.oci_descriptors.specs.declared.descriptor.OciDescriptor.{OciDescriptor}
 use Rattle.oci_manifests.specs.declared.blob.ImageLayer.{ImageLayer}
 use Rattle.cosign_layers.specs.Checks.{input, layer_read}
-use Rattle.cosign_layers.specs.Trust.{Trust}
-use Rattle.cosign_layers.specs.declared.layer.LayerKind.TheVariants as kinds
-use Rattle.cosign_layers.specs.declared.layer.SignatureLayer.{SignatureLayer}
+use Rattle.cosign_parts.specs.Trust.{Trust}
+use Rattle.cosign_parts.specs.declared.layer.LayerKind.TheVariants as kinds
+use Rattle.cosign_parts.specs.declared.layer.SignatureLayer.{SignatureLayer}
 use Rattle.cosign_layers.specs.declared.rejection.LayerRejection.{LayerRejection}
 use Rattle.cosign_layers.specs.declared.rejection.LayerRejection.TheVariants.{LayerNotPulled}
 use Rattle.cosign_rows.specs.declared.found.Part.{Part}

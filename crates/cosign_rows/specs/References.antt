@@ -3,8 +3,8 @@ use Rattle.std.specs.Prelude.{ℕ, Bool, true, false, if◌then◌else◌, List,
 use Rattle.std.specs.Prelude.{codes, chars, encode_utf8_all}
 use Rattle.oci_names.specs.declared.reference.Reference.{Reference}
 use Rattle.oci_names.specs.Reference.{registry_of, repository_of, whole_text, reads_back}
-use Rattle.sig_calls.specs.declared.error.SigstoreError.{SigstoreError}
-use Rattle.sig_calls.specs.declared.error.SigstoreError.TheVariants as sigstore
+use Rattle.registry_calls.specs.declared.error.SigstoreError.{SigstoreError}
+use Rattle.registry_calls.specs.declared.error.SigstoreError.TheVariants as sigstore
 
 -- a dash replaces each colon
 abbrev pub dashed : ℕ → ℕ

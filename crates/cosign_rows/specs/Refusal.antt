@@ -5,8 +5,8 @@ use Rattle.json_values.specs.Refusals as Refusals
 use Rattle.oci_transport.specs.Link.{Link}
 use Rattle.engine_terms.specs.declared.error.OciDistributionError.{OciDistributionError}
 use Rattle.engine_terms.specs.declared.error.OciDistributionError.TheVariants.{TransportFault, SinkFault}
-use Rattle.sig_calls.specs.declared.error.SigstoreError.{SigstoreError}
-use Rattle.sig_calls.specs.declared.error.SigstoreError.TheVariants as sigstore
+use Rattle.registry_calls.specs.declared.error.SigstoreError.{SigstoreError}
+use Rattle.registry_calls.specs.declared.error.SigstoreError.TheVariants as sigstore
 use Rattle.cosign_rows.specs.declared.refusal.PullRefusal.{PullRefusal}
 use Rattle.cosign_rows.specs.declared.refusal.PullRefusal.TheVariants as refusal
 

@@ -12,11 +12,11 @@ use Rattle.oci_descriptors.specs.declared.index_entry.ImageIndexEntry.{ImageInde
 use Rattle.oci_protocol.specs.Proto.{Done, bind, ◌>>=◌, ◌>>◌}
 use Rattle.engine_terms.specs.Contexts.{Context}
 use Rattle.engine_rows.specs.declared.image.ImageData.{ImageData}
-use Rattle.sig_calls.specs.declared.error.SigstoreError.{SigstoreError}
-use Rattle.sig_calls.specs.Error.{is_memory}
-use Rattle.sig_calls.specs.Clients.{Row}
-use Rattle.sig_calls.specs.Calls.{digest_call, manifest_call, image_call, referrers_call}
-use Rattle.cosign_layers.specs.Trust.{Trust}
+use Rattle.registry_calls.specs.declared.error.SigstoreError.{SigstoreError}
+use Rattle.registry_calls.specs.Error.{is_memory}
+use Rattle.registry_calls.specs.Clients.{Row}
+use Rattle.registry_calls.specs.Calls.{digest_call, manifest_call, image_call, referrers_call}
+use Rattle.cosign_parts.specs.Trust.{Trust}
 use Rattle.cosign_rows.specs.Part.{nothing, skipping, appended, descriptors_part, bundles_part}
 use Rattle.cosign_rows.specs.References.{tag_reference, digest_reference, reading_back}
 use Rattle.cosign_rows.specs.declared.found.Part.{Part}

@@ -3,8 +3,8 @@ use Rattle.std.specs.Prelude.{◌≡◌, ℕ, List, [], Result}
 use Rattle.oci_transport.specs.Link.{Link}
 use Rattle.oci_transport.specs.declared.message.Exchange.{Exchange}
 use Rattle.oci_protocol.specs.Runs.{Runs}
-use Rattle.sig_calls.specs.declared.error.SigstoreError.{SigstoreError}
-use Rattle.sig_calls.specs.Clients.{Client, Kept, Row}
+use Rattle.registry_calls.specs.declared.error.SigstoreError.{SigstoreError}
+use Rattle.registry_calls.specs.Clients.{Client, Kept, Row}
 
 -- the client's state, and the transport's fault count
 pub record Snapshot : Type 0 where

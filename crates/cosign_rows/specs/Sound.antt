@@ -5,11 +5,11 @@ use Rattle.oci_auth.specs.declared.auth.RegistryAuth.{RegistryAuth}
 use Rattle.oci_transport.specs.declared.message.Exchange.{Exchange}
 use Rattle.oci_manifests.specs.declared.blob.ImageLayer.{ImageLayer}
 use Rattle.engine_terms.specs.Contexts.{Context}
-use Rattle.engine_laws.specs.Answered.{DigestAnswered, Body}
-use Rattle.sig_settings.specs.Keys.{manifest_key}
-use Rattle.sig_calls.specs.Caching.{known}
-use Rattle.sig_calls.specs.Calls.{digests}
-use Rattle.sig_calls.specs.Clients.{Kept}
+use Rattle.engine_rows.specs.Answered.{DigestAnswered, Body}
+use Rattle.registry_cache.specs.Keys.{manifest_key}
+use Rattle.registry_cache.specs.Caching.{known}
+use Rattle.registry_cache.specs.KeptCalls.{digests}
+use Rattle.registry_calls.specs.Clients.{Kept}
 use Rattle.cosign_layers.specs.Satisfying.{PolicyContext}
 use Rattle.cosign_chain.specs.Chain.{Chain}
 use Rattle.cosign_chain.specs.declared.image.VerifiedImage.{VerifiedImage}

@@ -1,6 +1,6 @@
 -- The meaning of the terms of a pull.
 use Rattle.cosign_layers.specs.Satisfying.{PolicyContext, CustomVerdict, policy_context}
-use Rattle.cosign_layers.specs.Trust.{Valid, Vouching, trust_of}
+use Rattle.cosign_parts.specs.Trust.{Valid, Vouching, trust_of}
 use Rattle.cosign_rows.specs.declared.terms.Terms.{Terms}
 
 -- the policy and the trust of these terms, for these meanings of verifiers, judges and boxes

@@ -4,11 +4,11 @@ use Rattle.oci_names.specs.declared.reference.Reference.{Reference}
 use Rattle.oci_auth.specs.declared.auth.RegistryAuth.{RegistryAuth}
 use Rattle.oci_protocol.specs.Proto.{Done, bind, ◌>>=◌}
 use Rattle.engine_terms.specs.Contexts.{Context}
-use Rattle.sig_calls.specs.declared.error.SigstoreError.{SigstoreError}
-use Rattle.sig_calls.specs.declared.reference.OciReference.{OciReference}
-use Rattle.sig_calls.specs.Calls.{digest_call}
-use Rattle.sig_calls.specs.Clients.{Row}
-use Rattle.sig_calls.specs.Direct.{reference_in}
+use Rattle.registry_calls.specs.declared.error.SigstoreError.{SigstoreError}
+use Rattle.registry_calls.specs.declared.reference.OciReference.{OciReference}
+use Rattle.registry_calls.specs.Calls.{digest_call}
+use Rattle.registry_calls.specs.Clients.{Row}
+use Rattle.registry_calls.specs.Direct.{reference_in}
 use Rattle.cosign_rows.specs.References.{tag_reference}
 
 unfoldable pub triangulated : Context → Reference → RegistryAuth → Row (Reference × List ℕ)

@@ -5,11 +5,11 @@ use Rattle.oci_names.specs.Reference.{whole_text, reads_back}
 use Rattle.oci_auth.specs.declared.auth.RegistryAuth.{RegistryAuth}
 use Rattle.oci_protocol.specs.Proto.{Proto, Done, bind, ◌>>=◌, ◌>>◌}
 use Rattle.engine_terms.specs.Contexts.{Context}
-use Rattle.sig_calls.specs.declared.error.SigstoreError.{SigstoreError}
-use Rattle.sig_calls.specs.Clients.{Kept, Row}
-use Rattle.cosign_layers.specs.Constraint.{has_no_item}
+use Rattle.registry_calls.specs.declared.error.SigstoreError.{SigstoreError}
+use Rattle.registry_calls.specs.Clients.{Kept, Row}
+use Rattle.cosign_parts.specs.Items.{has_no_item}
 use Rattle.cosign_layers.specs.Satisfying.{PolicyContext, satisfies_policy}
-use Rattle.cosign_layers.specs.declared.layer.SignatureLayer.{SignatureLayer}
+use Rattle.cosign_parts.specs.declared.layer.SignatureLayer.{SignatureLayer}
 use Rattle.cosign_layers.specs.declared.policy.PullPolicy.{PullPolicy}
 use Rattle.cosign_chain.specs.declared.image.VerifiedImage.{VerifiedImage}
 use Rattle.cosign_rows.specs.Image.{image_row}

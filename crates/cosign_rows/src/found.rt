@@ -1,7 +1,8 @@
 //! What a search for signatures found, and why it found no more.
-use cosign_layers::{LayerRejection, SignatureLayer};
+use cosign_layers::LayerRejection;
+use cosign_parts::SignatureLayer;
 use json_values::{Copied, List, Text, copied, copy_all, row};
-use sig_calls::SigstoreError;
+use registry_calls::SigstoreError;
 use std::alloc::{AllocError, Global};
 
 /// Where signatures are searched.

@@ -1,13 +1,13 @@
 //! The references that the search and the pull request, in the image's repository.
 ghost use Rattle.std.specs.Prelude.{◌≡◌, IfOk, string_bytes};
-ghost use Rattle.sig_calls.specs.Direct.{reference_in};
-ghost use Rattle.sig_calls.specs.Error.{Matches};
+ghost use Rattle.registry_calls.specs.Direct.{reference_in};
+ghost use Rattle.registry_calls.specs.Error.{Matches};
 ghost use Rattle.cosign_rows.specs.References.{with_dashes, signature_tag, tag_reference};
 ghost use Rattle.cosign_rows.specs.References.{digest_reference, reading_back};
 
 use json_values::Text;
 use oci_names::Reference;
-use sig_calls::{OciReference, SigstoreError};
+use registry_calls::{OciReference, SigstoreError};
 use std::alloc::{AllocError, Global};
 
 // A tag cannot contain a colon, so a dash replaces it.

@@ -1,9 +1,9 @@
 //! Why an image was not pulled.
 use crate::found::Skipped;
-use cosign_layers::SignatureLayer;
+use cosign_parts::SignatureLayer;
 use engine_terms::OciDistributionError;
 use json_values::{Copied, List, Text, copy_all, row};
-use sig_calls::SigstoreError;
+use registry_calls::SigstoreError;
 use std::alloc::{AllocError, AllocFailed, Global};
 use std::fmt;
 use thiserror::Error;

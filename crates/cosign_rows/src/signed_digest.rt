@@ -1,5 +1,5 @@
 //! A digest with the layer that stands for it.
-use cosign_layers::SignatureLayer;
+use cosign_parts::SignatureLayer;
 use json_values::Text;
 
 /// A digest, and the signature layer that stands for it.

@@ -1,5 +1,6 @@
 //! The arguments of a search and of a pull.
-use cosign_layers::{PullPolicy, Trusted};
+use cosign_layers::PullPolicy;
+use cosign_parts::Trusted;
 use json_values::Text;
 use oci_auth::RegistryAuth;
 use oci_names::Reference;

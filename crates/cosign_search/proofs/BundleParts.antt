@@ -1,7 +1,7 @@
 -- The parts of a referrer's bundles, one after another.
 use Rattle.std.proofs.Common.{◌≡◌, ◌<◌, ℕ, ◌+◌, List, [], ◌∷◌, length, drop, get_or, sym, ap, ◌∙◌}
 use Rattle.oci_manifests.specs.declared.blob.ImageLayer.{ImageLayer}
-use Rattle.cosign_layers.specs.Trust.{Trust}
+use Rattle.cosign_parts.specs.Trust.{Trust}
 use Rattle.cosign_rows.specs.declared.found.Part.{Part}
 use Rattle.cosign_rows.specs.Part.{appended, bundle_part, bundles_part, nothing}
 use Rattle.cosign_rows.proofs.Descriptors.{at_next, joined_part, alone}

@@ -13,7 +13,7 @@ use Rattle.oci_digests.proofs.Equal.{named}
 use Rattle.oci_digests.proofs.ExactChecks.{algorithm_named}
 use Rattle.oci_descriptors.specs.declared.descriptor.OciDescriptor.{OciDescriptor}
 use Rattle.oci_manifests.specs.declared.blob.ImageLayer.{ImageLayer}
-use Rattle.sig_calls.specs.Named.{names_each}
+use Rattle.registry_calls.specs.Named.{names_each}
 use Rattle.cosign_search.specs.Part.{Begins, BeginsOtherwise, Serves, Tell, is_among, is_text, layer_digests, text_by}
 use Rattle.cosign_rows.specs.Part.{named_layer}
 use Rattle.cosign_search.specs.declared.part.LayerDigests.{LayerDigests}

@@ -7,11 +7,11 @@ use Rattle.oci_descriptors.specs.declared.index_entry.ImageIndexEntry.{ImageInde
 use Rattle.oci_protocol.specs.Proto.{Done, bind, ◌>>=◌}
 use Rattle.engine_terms.specs.Contexts.{Context}
 use Rattle.engine_terms.specs.declared.settings.Settings.{Settings}
-use Rattle.sig_calls.specs.declared.error.SigstoreError.{SigstoreError}
-use Rattle.sig_calls.specs.Error.{is_memory}
-use Rattle.sig_calls.specs.Calls.{referrers_call}
-use Rattle.sig_calls.specs.Clients.{Client, ClientMeets}
-use Rattle.cosign_layers.specs.Trust.{Trust}
+use Rattle.registry_calls.specs.declared.error.SigstoreError.{SigstoreError}
+use Rattle.registry_calls.specs.Error.{is_memory}
+use Rattle.registry_calls.specs.Calls.{referrers_call}
+use Rattle.registry_calls.specs.Clients.{Client, ClientMeets}
+use Rattle.cosign_parts.specs.Trust.{Trust}
 use Rattle.cosign_rows.specs.declared.found.Part.{Part}
 use Rattle.cosign_rows.specs.Search.{listed_row, referrer_row, referrers_row, referrers_source}
 use Rattle.cosign_rows.proofs.Descriptors.{at_next, alone}

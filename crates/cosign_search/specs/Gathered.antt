@@ -1,8 +1,8 @@
 -- The result of a source, appended to a given part.
 use Rattle.std.specs.Prelude.{Result, Ok, Err}
 use Rattle.oci_protocol.specs.Proto.{Done, bind}
-use Rattle.sig_calls.specs.declared.error.SigstoreError.{SigstoreError}
-use Rattle.sig_calls.specs.Clients.{Row}
+use Rattle.registry_calls.specs.declared.error.SigstoreError.{SigstoreError}
+use Rattle.registry_calls.specs.Clients.{Row}
 use Rattle.cosign_rows.specs.Part.{appended}
 use Rattle.cosign_rows.specs.declared.found.Part.{Part}
 

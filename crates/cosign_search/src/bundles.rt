@@ -1,14 +1,13 @@
 //! The bundles of a referrer as parts.
 ghost use Rattle.std.specs.Prelude.{◌≡◌, IfOk};
 ghost use Rattle.cosign_layers.specs.Checks.{input, layer_read};
-ghost use Rattle.cosign_layers.specs.Trust.{trust_of};
-ghost use Rattle.cosign_layers.specs.declared.layer.LayerKind.TheVariants as kinds;
+ghost use Rattle.cosign_parts.specs.Trust.{trust_of};
+ghost use Rattle.cosign_parts.specs.declared.layer.LayerKind.TheVariants as kinds;
 ghost use Rattle.cosign_layers.specs.Rejection.{Matches as MatchesLayer};
 ghost use Rattle.cosign_rows.specs.Part.{appended, bundle_part, bundles_part, read_bundle};
 
-use cosign_layers::{
-    LayerRejection, Offline, SignatureLayer, SignatureVerifier, Trusted, read_bundle_layer,
-};
+use cosign_layers::{LayerRejection, read_bundle_layer};
+use cosign_parts::{Offline, SignatureLayer, SignatureVerifier, Trusted};
 use cosign_rows::{Part, Skipped, SourceKind};
 use json_values::Annotations;
 use oci_digests::{Algorithm, digest_text};

@@ -2,19 +2,18 @@
 ghost use Rattle.std.specs.Prelude.{◌≡◌, true, false, All, IfOk, IsTrue, map, option_copied};
 ghost use Rattle.std.specs.List.{position};
 ghost use Rattle.oci_digests.specs.Names.{Names, digest_text, name_of};
-ghost use Rattle.sig_calls.specs.Named.{names_each};
+ghost use Rattle.registry_calls.specs.Named.{names_each};
 ghost use Rattle.cosign_layers.specs.Checks.{input, layer_read};
-ghost use Rattle.cosign_layers.specs.Trust.{trust_of};
-ghost use Rattle.cosign_layers.specs.declared.layer.LayerKind.TheVariants as kinds;
+ghost use Rattle.cosign_parts.specs.Trust.{trust_of};
+ghost use Rattle.cosign_parts.specs.declared.layer.LayerKind.TheVariants as kinds;
 ghost use Rattle.cosign_layers.specs.Rejection.{Matches as MatchesLayer};
 ghost use Rattle.cosign_rows.specs.Part.{appended, descriptors_part, layer_part, named_layer, read_layer, skipping};
 ghost use Rattle.cosign_search.specs.Part.{is_among, is_text, layer_digests, text_by};
 ghost use Rattle.cosign_search.specs.Part.{Begins, BeginsOtherwise, Serves, Tell};
 ghost use Rattle.cosign_rows.specs.declared.found.SourceKind.TheVariants.{Tag};
 
-use cosign_layers::{
-    LayerRejection, Offline, SignatureLayer, SignatureVerifier, Trusted, read_payload_layer,
-};
+use cosign_layers::{LayerRejection, read_payload_layer};
+use cosign_parts::{Offline, SignatureLayer, SignatureVerifier, Trusted};
 use cosign_rows::{Part, Skipped, SourceKind};
 use json_values::{Annotations, Copied, List, Text};
 use oci_descriptors::OciDescriptor;

@@ -3,10 +3,10 @@ ghost use Rattle.std.specs.Prelude.{◌≡◌, [], ◌∷◌, Err, IfOk};
 ghost use Rattle.oci_names.specs.Reference.{reads_back};
 ghost use Rattle.engine_terms.specs.Contexts.{within};
 ghost use Rattle.engine_terms.specs.declared.settings.Settings.{Settings};
-ghost use Rattle.cosign_layers.specs.Trust.{trust_of};
-ghost use Rattle.sig_calls.specs.Calls.{image_call};
-ghost use Rattle.sig_calls.specs.Clients.{ClientMeets};
-ghost use Rattle.sig_calls.specs.Error.{is_memory, Matches};
+ghost use Rattle.cosign_parts.specs.Trust.{trust_of};
+ghost use Rattle.registry_calls.specs.Calls.{image_call};
+ghost use Rattle.registry_calls.specs.Clients.{ClientMeets};
+ghost use Rattle.registry_calls.specs.Error.{is_memory, Matches};
 ghost use Rattle.cosign_rows.specs.Part.{appended, bundles_part, skipping};
 ghost use Rattle.cosign_rows.specs.Search.{bundle_type, or_skipped, referrer_part, referrer_by, referrer_row};
 ghost use Rattle.cosign_rows.specs.Search.{referrers_row, referrers_source};
@@ -15,13 +15,13 @@ ghost use Rattle.cosign_rows.specs.declared.found.SourceKind.TheVariants.{Referr
 ghost use Rattle.cosign_search.specs.Gathered.{gathered, put_behind};
 
 use crate::bundles::add_bundles;
-use cosign_layers::{BUNDLE_TYPE, Offline, SignatureVerifier, Trusted};
+use cosign_parts::{BUNDLE_TYPE, Offline, SignatureVerifier, Trusted};
 use cosign_rows::{Asked, Part, Referred, SkipCause, Skipped, SourceKind, digest_reference};
 use engine_rows::ImageData;
 use json_values::{List, Text};
 use oci_descriptors::ImageIndexEntry;
 use oci_transport::Transport;
-use sig_calls::{ClientCapabilities, SigstoreError};
+use registry_calls::{ClientCapabilities, SigstoreError};
 use std::alloc::{AllocError, Global};
 
 fn bundle_types(alloc: Global) -> Result<List<Text>, AllocError>

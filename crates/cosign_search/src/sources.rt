@@ -3,17 +3,17 @@ ghost use Rattle.std.specs.Prelude.{◌≡◌, [], ◌∷◌, IfOk, IsTrue};
 ghost use Rattle.oci_names.specs.Reference.{reads_back};
 ghost use Rattle.engine_terms.specs.Contexts.{within};
 ghost use Rattle.engine_terms.specs.declared.settings.Settings.{Settings};
-ghost use Rattle.cosign_layers.specs.Trust.{trust_of};
-ghost use Rattle.sig_calls.specs.Error.{is_memory, Matches};
-ghost use Rattle.sig_calls.specs.Clients.{ClientMeets};
-ghost use Rattle.sig_calls.specs.Named.{is_named, names_each};
+ghost use Rattle.cosign_parts.specs.Trust.{trust_of};
+ghost use Rattle.registry_calls.specs.Error.{is_memory, Matches};
+ghost use Rattle.registry_calls.specs.Clients.{ClientMeets};
+ghost use Rattle.registry_calls.specs.Named.{is_named, names_each};
 ghost use Rattle.cosign_rows.specs.Search.{document_part, pulled_part, payload_type, or_skipped};
 ghost use Rattle.cosign_rows.specs.Search.{searched, tag_by, tag_layers, tag_source};
 ghost use Rattle.cosign_rows.specs.declared.found.Skipped.TheVariants.{Source};
 
 use crate::part::{descriptors_part, skipping};
 use crate::referrers::referrers_source;
-use cosign_layers::{Offline, SignatureVerifier, Trusted};
+use cosign_parts::{Offline, SignatureVerifier, Trusted};
 use cosign_rows::{
     Asked, Part, Referred, SkipCause, Skipped, SourceKind, TrustedLayers, digest_reference,
     reading_back, tag_reference,
@@ -23,7 +23,7 @@ use json_values::{List, Text};
 use oci_descriptors::OciDescriptor;
 use oci_manifests::OciManifest;
 use oci_transport::Transport;
-use sig_calls::{ClientCapabilities, SigstoreError};
+use registry_calls::{ClientCapabilities, SigstoreError};
 use std::alloc::{AllocError, Global};
 
 /// The media type of the layers that cosign signs.

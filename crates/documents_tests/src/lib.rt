@@ -1,5 +1,9 @@
-//! Tests of manifests, indexes, errors and listings.
+//! Tests of manifests, indexes, errors, listings, configuration files and points in time.
 #![tactic(auto)]
 
 #[cfg(test)]
+mod configuration;
+#[cfg(test)]
 mod manifests;
+#[cfg(test)]
+mod times;

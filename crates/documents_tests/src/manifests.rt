@@ -6,8 +6,8 @@ use oci_docs::{
     OciErrorCode, OciImageIndex, OciImageManifest, OciManifest, Platform, ReadError, TagResponse,
     Versioned, is_manifest_media_type, manifest_text,
 };
+use recorded_answers::{holds, is_written, json};
 use std::alloc::{AllocError, Global};
-use test_answers::{holds, is_written, json};
 
 // An image with the configuration `{}` and with `hello world` as its only layer.
 const IMAGE: &str =

@@ -10,8 +10,8 @@ use Rattle.oci_names.specs.Reference.{registry_of, mirror_of, repository_of}
 use Rattle.engine_terms.specs.declared.error.GenericCause.TheVariants.{ConfigNotText}
 use Rattle.engine_terms.specs.declared.error.OciDistributionError.{OciDistributionError}
 use Rattle.engine_terms.specs.declared.error.OciDistributionError.TheVariants as refusal
-use Rattle.oci_platforms.specs.Promise.{resolved, lists}
-use Rattle.oci_platforms.specs.declared.promise.ResolverPromise.{ResolverPromise}
+use Rattle.oci_descriptors.specs.Promise.{resolved, lists}
+use Rattle.oci_descriptors.specs.declared.promise.ResolverPromise.{ResolverPromise}
 
 -- the digest that the resolver returned, which must be an entry's
 abbrev pub entry_named : List ImageIndexEntry → Option (List ℕ) → Result (List ℕ) OciDistributionError

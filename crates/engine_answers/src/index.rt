@@ -1,16 +1,15 @@
 // Selects the image of an index.
 ghost use Rattle.std.specs.Prelude.{◌≡◌, IfOk};
-ghost use Rattle.oci_platforms.specs.Promise.{lists};
+ghost use Rattle.oci_descriptors.specs.Promise.{lists};
 ghost use Rattle.engine_terms.specs.Error.{Matches};
 ghost use Rattle.engine_answers.specs.Index.{entry_named, entry_found, entry_manifest};
 ghost use Rattle.engine_answers.specs.Index.{entry_reference, config_text};
 
 use engine_terms::{GenericCause, OciDistributionError};
 use json_values::{Blob, Text};
-use oci_descriptors::ImageIndexEntry;
+use oci_descriptors::{ImageIndexEntry, PlatformResolver};
 use oci_manifests::{OciImageManifest, OciManifest};
 use oci_names::Reference;
-use oci_platforms::PlatformResolver;
 use std::alloc::{AllocError, Global};
 
 fn lists(digest: &str, manifests: &[ImageIndexEntry]) -> bool

@@ -1,3 +1,4 @@
+pub mod Attempts
 pub mod Layers
 pub mod NoSink
 pub mod PlacesInTurn

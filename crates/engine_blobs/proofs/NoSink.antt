@@ -5,7 +5,7 @@ use Rattle.std.specs.Result.{IsErrAnd}
 use Rattle.std.proofs.lemmas.Result.{err_from_is_err_and}
 use Rattle.std.specs.FinMap as map
 use Rattle.url.specs.Parts.{Parts, serialize}
-use Rattle.json_values.specs.SinkState.{SinkState}
+use Rattle.byte_streams.specs.SinkState.{SinkState}
 use Rattle.oci_transport.specs.Link.{Link}
 use Rattle.oci_transport.specs.Urls.{request_url}
 use Rattle.oci_transport.specs.Headers.{Fields, added, held, is_header_value}
@@ -33,7 +33,7 @@ use Rattle.engine_requests.specs.Addresses.{url_or, url_read, registry_text}
 use Rattle.engine_requests.specs.Requests.{with_header, with_accept, with_token, headers_of, request_of}
 use Rattle.engine_rows.specs.Rows.{Row, passed_over, taken, token_step, token_asked, kept_or_asked, token_by, token_for, goes_to, token_where, authorized, prepared}
 use Rattle.engine_rows.specs.Blobs.{MeetsIntoSink}
-use Rattle.engine_attempts.proofs.Attempts.{spills_none}
+use Rattle.engine_blobs.proofs.Attempts.{spills_none}
 
 -- an error is not a fault of the sink
 abbrev pub Calm : {A : Type 0} → Result A OciDistributionError → Type 0

@@ -1,7 +1,7 @@
 -- A blob's request, and then the places that its URLs name.
 use Rattle.std.proofs.Common.{◌≡◌, ◌<◌, ℕ, ◌+◌, Bool, true, false, List, [], ◌∷◌, Option, Some, None, Result, Ok, Err, length, drop, get_or, refl, ap, ◌∙◌}
 use Rattle.std.specs.Result.{IsErrAnd}
-use Rattle.json_values.specs.SinkState.{SinkState}
+use Rattle.byte_streams.specs.SinkState.{SinkState}
 use Rattle.oci_transport.specs.Link.{Link}
 use Rattle.oci_transport.specs.declared.message.Request.{Request}
 use Rattle.oci_auth.specs.declared.auth_state.AuthState.{AuthState}
@@ -20,7 +20,7 @@ use Rattle.oci_transport.specs.declared.message.Method.TheVariants.{Get}
 use Rattle.engine_rows.specs.Rows.{Row}
 use Rattle.engine_rows.specs.Blobs.{Destination, IntoSink, IntoMemory, attempt, MeetsIntoSink}
 use Rattle.engine_rows.specs.Offers.{offer, tried, Offered, OfferedInto}
-use Rattle.engine_attempts.proofs.Attempts.{spills_wanting, spills_next}
+use Rattle.engine_blobs.proofs.Attempts.{spills_wanting, spills_next}
 use Rattle.engine_rows.proofs.Exits.{said, refused, and_then}
 use Rattle.engine_blobs.proofs.Layers.{at_next}
 use Rattle.engine_blobs.proofs.NoSink.{Calm, request_calm, done_calm, spills_refused}

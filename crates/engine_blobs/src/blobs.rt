@@ -8,11 +8,12 @@ ghost use Rattle.engine_rows.specs.Blobs.{IntoSink, IntoMemory, MeetsIntoSink};
 ghost use Rattle.engine_rows.specs.Offers.{tried};
 ghost use Rattle.engine_rows.specs.Pulls.{pull_blob, held_blob};
 
-use engine_attempts::{attempt, held, held_offer, offer};
+use crate::attempts::{attempt, held, held_offer, offer};
+use byte_streams::Sink;
 use engine_requests::{LayerDescriptor, MANIFEST_TYPES, asked_at, blob_url, place_of};
 use engine_steps::{Target, prepared};
 use engine_terms::{Call, OciDistributionError, Settings};
-use json_values::{Blob, Sink, Text};
+use json_values::{Blob, Text};
 use oci_auth::{AuthState, RegistryOperation};
 use oci_transport::{Method, Request, Transport};
 use std::alloc::Global;

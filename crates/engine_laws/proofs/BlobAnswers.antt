@@ -38,7 +38,7 @@ use Rattle.engine_rows.specs.Rows.{prepared}
 use Rattle.engine_rows.specs.Blobs.{Destination, IntoSink, IntoMemory, reading_into, reading_by, blob_reading, unread_by, read_by, blob_reply}
 use Rattle.engine_rows.specs.Offers.{tried}
 use Rattle.engine_rows.specs.Pulls.{blob_to}
-use Rattle.engine_laws.specs.Answered.{LedTo, Body, LastBody}
+use Rattle.engine_rows.specs.Answered.{LedTo, Body, LastBody}
 use Rattle.engine_laws.proofs.PreparedRequests.{into_ok, Prepared, prepared_shows}
 use Rattle.engine_laws.proofs.DocumentAnswers.{led_of, body_after, body_led}
 use Rattle.engine_laws.proofs.OfferedPlaces.{EachPlace, Unasked, Gives, tried_law}

@@ -44,7 +44,7 @@ use Rattle.engine_rows.specs.Rows.{prepared}
 use Rattle.engine_rows.specs.Blobs.{Destination, IntoSink, IntoMemory, reading_by, blob_reading, unread_by, read_by, blob_reply}
 use Rattle.engine_rows.specs.Offers.{tried}
 use Rattle.engine_rows.specs.Pulls.{blob_to}
-use Rattle.engine_laws.specs.Causes.{Act, Reads, Sends, UnfitUrl, AsksListed, BlobUrl, SinkMayFail, LastAnswer, Claimed, DigestCause, AnswerCause, AskedDigest}
+use Rattle.engine_rows.specs.Causes.{Act, Reads, Sends, UnfitUrl, AsksListed, BlobUrl, SinkMayFail, LastAnswer, Claimed, DigestCause, AnswerCause, AskedDigest}
 use Rattle.engine_laws.proofs.EarlyCauses.{Loose, LooseBlob}
 use Rattle.engine_laws.proofs.PreparedRequests.{asks_of, Prepared}
 use Rattle.engine_laws.proofs.DigestErrors.{name_cause, name_claimed, differs_claimed, header_cause}

@@ -1,7 +1,7 @@
 -- Why the results of a client's calls are refusals.
 use Rattle.std.proofs.Common.{◌≡◌, ℕ, true, List, [], Option, Some, None, Result, Ok, Err, IfErr, refl}
 use Rattle.json_values.specs.Counts.{Increased}
-use Rattle.json_values.specs.SinkState.{SinkState}
+use Rattle.byte_streams.specs.SinkState.{SinkState}
 use Rattle.oci_transport.specs.Link.{Link}
 use Rattle.oci_transport.specs.declared.message.Answer.{Answer}
 use Rattle.oci_transport.specs.declared.message.Exchange.{Exchange}
@@ -26,10 +26,10 @@ use Rattle.engine_rows.specs.Image.{pull}
 use Rattle.engine_rows.specs.Manifests.{pull_image_manifest_and_list_digest, pull_image_manifest, pull_manifest_and_config_and_list_digest, pull_manifest_and_config}
 use Rattle.oci_manifests.specs.declared.manifest.OciImageManifest.{OciImageManifest}
 use Rattle.engine_rows.specs.declared.image.ImageData.{ImageData}
-use Rattle.engine_laws.specs.TokenCauses.{LastIs}
-use Rattle.engine_laws.specs.Held.{Entry, pulling}
+use Rattle.engine_rows.specs.TokenCauses.{LastIs}
+use Rattle.engine_rows.specs.Held.{Entry, pulling}
 use Rattle.engine_rows.specs.Blobs.{Destination, IntoSink}
-use Rattle.engine_laws.specs.Causes.{Act, ManifestUrl, BlobUrl, AnswerCause, DocumentCause, BadHeader, Cause, OwnDigest, BlobCause, FoundCause, ConfigCause, ImageCause}
+use Rattle.engine_rows.specs.Causes.{Act, ManifestUrl, BlobUrl, AnswerCause, DocumentCause, BadHeader, Cause, OwnDigest, BlobCause, FoundCause, ConfigCause, ImageCause}
 use Rattle.engine_laws.proofs.EarlyCauses.{Loose, LooseBlob}
 use Rattle.engine_laws.proofs.DocumentCauses.{Accepted, raw_causes}
 use Rattle.engine_laws.proofs.DigestCauses.{digest_causes}

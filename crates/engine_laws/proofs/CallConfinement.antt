@@ -1,7 +1,7 @@
 -- Each call sends credentials and tokens only to the registry and to the realm that it names, and stores only what was
 -- stored before or what it may send.
 use Rattle.std.proofs.Common.{◌≡◌, inr, ℕ, List, [], Option, Some, None, Result, Ok, Err, refl}
-use Rattle.json_values.specs.SinkState.{SinkState}
+use Rattle.byte_streams.specs.SinkState.{SinkState}
 use Rattle.oci_transport.specs.Link.{Link}
 use Rattle.oci_transport.specs.declared.message.Exchange.{Exchange}
 use Rattle.oci_names.specs.declared.reference.Reference.{Reference}
@@ -28,8 +28,8 @@ use Rattle.engine_rows.specs.Pulls.{fetch_manifest_digest, pull_manifest_raw, pu
 use Rattle.engine_rows.specs.Manifests.{pull_image_manifest_and_list_digest, pull_image_manifest, pull_manifest_and_config_and_list_digest, pull_manifest_and_config}
 use Rattle.engine_rows.specs.Image.{pull}
 use Rattle.engine_rows.specs.declared.image.ImageData.{ImageData}
-use Rattle.engine_laws.specs.Confined.{Confined, Within}
-use Rattle.engine_laws.specs.Held.{Entry, pulling, asking}
+use Rattle.engine_rows.specs.Confined.{Confined, Within}
+use Rattle.engine_rows.specs.Held.{Entry, pulling, asking}
 use Rattle.engine_laws.proofs.KeptTokens.{Keeps, keeps_first, keeps_more, keeps_kept}
 use Rattle.engine_laws.proofs.SafeKeeps.{Meets-within}
 use Rattle.engine_laws.proofs.ShownTokens.{Carries, Ended, Asked, store_safe, step_safe}

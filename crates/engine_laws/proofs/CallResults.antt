@@ -1,6 +1,6 @@
 -- Which properties the results of a client's calls have.
 use Rattle.std.proofs.Common.{◌≡◌, ℕ, List, Some, Result, Ok, Err, IfOk}
-use Rattle.json_values.specs.SinkState.{SinkState}
+use Rattle.byte_streams.specs.SinkState.{SinkState}
 use Rattle.oci_transport.specs.Link.{Link}
 use Rattle.oci_transport.specs.declared.message.Exchange.{Exchange}
 use Rattle.oci_names.specs.declared.reference.Reference.{Reference}
@@ -16,7 +16,7 @@ use Rattle.engine_terms.specs.declared.error.OciDistributionError.{OciDistributi
 use Rattle.engine_terms.specs.Error.{is_memory}
 use Rattle.engine_rows.specs.Blobs.{Destination, IntoSink, MeetsIntoSink}
 use Rattle.engine_rows.specs.Pulls.{fetch_manifest_digest, pull_manifest_raw, blob_to, pull_blob}
-use Rattle.engine_laws.specs.Answered.{DigestAnswered, Body, LastBody, Document, TookBlob}
+use Rattle.engine_rows.specs.Answered.{DigestAnswered, Body, LastBody, Document, TookBlob}
 use Rattle.engine_laws.proofs.DocumentAnswers.{raw_shows}
 use Rattle.engine_laws.proofs.DigestAnswers.{digest_shows}
 use Rattle.engine_laws.proofs.BlobAnswers.{Blob, blob_shows}

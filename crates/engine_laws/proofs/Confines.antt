@@ -29,8 +29,8 @@ use Rattle.engine_terms.specs.Settings.{scheme_for}
 use Rattle.engine_terms.specs.Contexts.{Context}
 use Rattle.engine_requests.specs.Tokens.{allowed, realm_url, with_service}
 use Rattle.engine_terms.specs.declared.settings.Settings.{Settings}
-use Rattle.engine_laws.specs.Confined.{ToRegistry, ToRealm, MayCarry, Confined, KeptOrAdded, StoredOrHanded, Within}
-use Rattle.engine_laws.specs.Held.{Entry, pulling, IsAuth, IsHeld}
+use Rattle.engine_rows.specs.Confined.{ToRegistry, ToRealm, MayCarry, Confined, KeptOrAdded, StoredOrHanded, Within}
+use Rattle.engine_rows.specs.Held.{Entry, pulling, IsAuth, IsHeld}
 use Rattle.engine_laws.proofs.RequestConfinement.{each_more}
 use Rattle.engine_laws.proofs.KeptTokens.{Keeps, keeps_first, keeps_more}
 use Rattle.engine_laws.proofs.SafeKeeps.{Lasts, Meets-within}

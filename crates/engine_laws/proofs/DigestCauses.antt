@@ -28,7 +28,7 @@ use Rattle.engine_rows.specs.declared.named.NamedAnswer.{NamedAnswer}
 use Rattle.engine_rows.specs.declared.named.NamedAnswer.TheVariants as named
 use Rattle.engine_rows.specs.Rows.{store, reading_named, named_reading, unread_named, read_named, named_reply, named_after, prepared}
 use Rattle.engine_rows.specs.Pulls.{document, digest_by, fetch_manifest_digest}
-use Rattle.engine_laws.specs.Causes.{Sends, ManifestUrl, LastAnswer, AnswerCause, OwnDigest}
+use Rattle.engine_rows.specs.Causes.{Sends, ManifestUrl, LastAnswer, AnswerCause, OwnDigest}
 use Rattle.engine_laws.proofs.PreparedRequests.{Prepared}
 use Rattle.engine_laws.proofs.DigestErrors.{digest_err, agreed_cause}
 use Rattle.engine_laws.proofs.EarlyCauses.{prepared_causes, store_causes}

@@ -13,7 +13,7 @@ use Rattle.oci_digests.specs.declared.error.DigestError.TheVariants.{InvalidHead
 use Rattle.engine_terms.specs.declared.error.OciDistributionError.{OciDistributionError}
 use Rattle.engine_terms.specs.declared.error.OciDistributionError.TheVariants as refusal
 use Rattle.engine_answers.specs.Answers.{or_digest_error, header_digest, agreed}
-use Rattle.engine_laws.specs.Causes.{Claimed, DigestCause}
+use Rattle.engine_rows.specs.Causes.{Claimed, DigestCause}
 
 -- why a text names no algorithm
 abbrev pub NameCause : List ℕ → DigestError → Type 0

@@ -37,7 +37,7 @@ use Rattle.engine_requests.specs.Addresses.{manifest_text, url_read}
 use Rattle.engine_answers.specs.Answers.{is_success, is_client_error, envelope_in, by_envelope, refused_answer, accepted, header_digest, body_digest, answer_digest, document_in}
 use Rattle.engine_rows.specs.Rows.{Row, store, whole, whole_reply, prepared}
 use Rattle.engine_rows.specs.Pulls.{document, manifest_document, pull_manifest_raw}
-use Rattle.engine_laws.specs.Causes.{Act, Reads, Sends, AsksAt, ManifestUrl, LastAsked, LastAnswer, LastFailed, LastTooLong, IsClientError, DigestCause, AnswerCause, ByLast, OwnDigest}
+use Rattle.engine_rows.specs.Causes.{Act, Reads, Sends, AsksAt, ManifestUrl, LastAsked, LastAnswer, LastFailed, LastTooLong, IsClientError, DigestCause, AnswerCause, ByLast, OwnDigest}
 use Rattle.engine_laws.proofs.EarlyCauses.{Loose}
 use Rattle.engine_laws.proofs.PreparedRequests.{asks_of, Prepared}
 use Rattle.engine_laws.proofs.DocumentAnswers.{accepted_is, url_is}

@@ -31,7 +31,7 @@ use Rattle.engine_requests.specs.Addresses.{url_or, url_read, registry_text}
 use Rattle.engine_requests.specs.Requests.{with_header, with_accept, with_token, headers_of, request_of, bare_request}
 use Rattle.engine_rows.specs.Rows.{Row, passed_over, taken, token_step, token_asked, kept_or_asked, token_by, token_for, goes_to, token_where, authorized, prepared, store}
 use Rattle.engine_rows.specs.Blobs.{Destination}
-use Rattle.engine_laws.specs.Causes.{Act, Reads, Cause, BlobCause}
+use Rattle.engine_rows.specs.Causes.{Act, Reads, Cause, BlobCause}
 use Rattle.engine_laws.proofs.PreparedRequests.{Prepared, prepared_shows}
 
 -- ---- causes, for any invalid header value

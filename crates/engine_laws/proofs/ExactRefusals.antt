@@ -3,7 +3,7 @@ use Rattle.std.proofs.Common.{◌≡◌, inl, inr, ℕ, Bool, true, false, List,
 use Rattle.std.specs.Prelude.{MatchBool, ◌&&◌, nat_lt, if◌then◌else◌}
 use Rattle.std.specs.FinMap as map
 use Rattle.url.specs.Parts.{Parts}
-use Rattle.json_values.specs.SinkState.{SinkState}
+use Rattle.byte_streams.specs.SinkState.{SinkState}
 use Rattle.oci_transport.specs.Headers.{Fields, added, held, is_header_value}
 use Rattle.oci_transport.specs.Link.{Link}
 use Rattle.oci_transport.specs.Urls.{request_url}
@@ -34,7 +34,7 @@ use Rattle.engine_rows.specs.Offers.{tried}
 use Rattle.engine_rows.specs.Pulls.{document, digest_by, manifest_document, pull_manifest_raw, fetch_manifest_digest, pull_manifest, blob_to}
 use Rattle.engine_rows.specs.Image.{pull}
 use Rattle.engine_rows.specs.Manifests.{pull_image_manifest_and_list_digest, pull_image_manifest, pull_manifest_and_config_and_list_digest, pull_manifest_and_config}
-use Rattle.engine_laws.specs.Causes.{Act, IsEarly, IsEarlyRefusal, HasBadHeader, IsRefusedAs}
+use Rattle.engine_rows.specs.Causes.{Act, IsEarly, IsEarlyRefusal, HasBadHeader, IsRefusedAs}
 use Rattle.engine_laws.proofs.EarlyCauses.{Early, EarlyCause, authorized_early}
 
 -- ---- a malformed URL

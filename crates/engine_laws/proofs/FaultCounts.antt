@@ -10,8 +10,8 @@ use Rattle.oci_protocol.specs.Runs.{Runs, Performs, PerformsPrefix, Outcome, Mee
 use Rattle.oci_protocol.specs.Safe.{Safe}
 use Rattle.oci_protocol.specs.EveryRun.{EveryRun, ByResult}
 use Rattle.oci_protocol.proofs.SafeEnds.{Runs-ends-safe}
-use Rattle.engine_laws.specs.Causes.{Act, LastFailed}
-use Rattle.engine_laws.specs.TokenCauses.{LastIs}
+use Rattle.engine_rows.specs.Causes.{Act, LastFailed}
+use Rattle.engine_rows.specs.TokenCauses.{LastIs}
 
 -- each exchange was sent at this fault count or a higher one
 abbrev SentFrom : ℕ → List Exchange → Type 0

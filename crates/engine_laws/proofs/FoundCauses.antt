@@ -8,8 +8,8 @@ use Rattle.oci_manifests.specs.declared.document.OciManifest.TheVariants.{Image,
 use Rattle.oci_manifests.specs.declared.manifest.OciImageManifest.{OciImageManifest}
 use Rattle.oci_manifests.specs.declared.index.OciImageIndex.{OciImageIndex}
 use Rattle.oci_descriptors.specs.declared.index_entry.ImageIndexEntry.{ImageIndexEntry}
-use Rattle.oci_platforms.specs.Promise.{lists, resolved}
-use Rattle.oci_platforms.specs.declared.promise.ResolverPromise.{ResolverPromise}
+use Rattle.oci_descriptors.specs.Promise.{lists, resolved}
+use Rattle.oci_descriptors.specs.declared.promise.ResolverPromise.{ResolverPromise}
 use Rattle.oci_auth.specs.declared.auth.RegistryAuth.{RegistryAuth}
 use Rattle.oci_protocol.specs.Proto.{Done, ◌>>=◌}
 use Rattle.oci_protocol.specs.EveryRun.{EveryRun, ByResult}
@@ -23,7 +23,7 @@ use Rattle.engine_answers.specs.Index.{entry_named, entry_found, entry_manifest,
 use Rattle.engine_requests.specs.Requests.{manifest_types}
 use Rattle.engine_rows.specs.Manifests.{pull_entry, manifest_by, pull_image_manifest_and_list_digest, pull_image_manifest}
 use Rattle.engine_rows.specs.Pulls.{pull_manifest}
-use Rattle.engine_laws.specs.Causes.{Act, ManifestUrl, DocumentCause, OwnDigest, IndexRead, LastIsIndex, IsMissing, NotFound, IndexCause, EntryDigest, FoundDigest, FoundUrl, FoundCause, ManifestRead}
+use Rattle.engine_rows.specs.Causes.{Act, ManifestUrl, DocumentCause, OwnDigest, IndexRead, LastIsIndex, IsMissing, NotFound, IndexCause, EntryDigest, FoundDigest, FoundUrl, FoundCause, ManifestRead}
 use Rattle.engine_laws.proofs.EarlyCauses.{AnyValue, Loose}
 use Rattle.engine_laws.proofs.DocumentAnswers.{body_before}
 use Rattle.engine_laws.proofs.DocumentCauses.{cause_later, last_later}

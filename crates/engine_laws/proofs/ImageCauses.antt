@@ -26,8 +26,8 @@ use Rattle.engine_rows.specs.Pulls.{held_blob}
 use Rattle.engine_rows.specs.Manifests.{pull_image_manifest_and_list_digest, pull_manifest_and_config_and_list_digest, pull_manifest_and_config}
 use Rattle.engine_rows.specs.Image.{is_accepted, all_accepted, layers_accepted, layer_of, config_of, pull_layers, pull}
 use Rattle.engine_rows.specs.declared.image.ImageData.{ImageData}
-use Rattle.engine_laws.specs.Answered.{LastBody}
-use Rattle.engine_laws.specs.Causes.{BlobUrl, ImageUrl, FoundUrl, FoundDigest, AnswerCause, DocumentCause, AskedDigest, ManifestRead, ReadDescriptor, ImageDigest, IndexCause, ConfigCause, ImageCause}
+use Rattle.engine_rows.specs.Answered.{LastBody}
+use Rattle.engine_rows.specs.Causes.{BlobUrl, ImageUrl, FoundUrl, FoundDigest, AnswerCause, DocumentCause, AskedDigest, ManifestRead, ReadDescriptor, ImageDigest, IndexCause, ConfigCause, ImageCause}
 use Rattle.engine_laws.proofs.EarlyCauses.{AnyValue, Loose, LooseBlob}
 use Rattle.engine_laws.proofs.DocumentCauses.{cause_later}
 use Rattle.engine_laws.proofs.BlobAnswers.{Blob, blob_shows}

@@ -19,8 +19,8 @@ use Rattle.oci_auth.specs.declared.auth_state.AuthState.{AuthState}
 use Rattle.oci_auth.specs.declared.token_type.RegistryTokenType.{RegistryTokenType}
 use Rattle.oci_auth.proofs.Places.{is_kept, same_key, under_itself}
 use Rattle.engine_rows.specs.Rows.{with_kept}
-use Rattle.engine_laws.specs.Confined.{KeptOrAdded, KeptWell, StoredOrHanded, StoredWell}
-use Rattle.engine_laws.specs.Held.{Entry, IsAuth, GivenIn, IsHeld}
+use Rattle.engine_rows.specs.Confined.{KeptOrAdded, KeptWell, StoredOrHanded, StoredWell}
+use Rattle.engine_rows.specs.Held.{Entry, IsAuth, GivenIn, IsHeld}
 
 -- the client state after these exchanges
 pub record Keeps (x : Entry) (l : AuthState) (c : List Exchange) : Type 0 where

@@ -43,7 +43,7 @@ use Rattle.engine_requests.specs.declared.tokens.Wanted.{Wanted}
 use Rattle.engine_requests.specs.declared.tokens.Wanted.TheVariants as wants
 use Rattle.engine_terms.specs.declared.error.OciDistributionError.{OciDistributionError}
 use Rattle.engine_rows.specs.Rows.{whole_reply, whole, head_reply, head_after, recalled, store, realm_asked, fetched, registry_asked, token_step, with_kept, passed_over, taken, token_asked, kept_or_asked, token_by, token_for, goes_to, token_where, authorized, prepared}
-use Rattle.engine_laws.specs.Answered.{AsksRegistry, AsksRealm, OfTokenStep, Asks}
+use Rattle.engine_rows.specs.Answered.{AsksRegistry, AsksRealm, OfTokenStep, Asks}
 
 -- ---- how a request is built
 

@@ -21,8 +21,8 @@ use Rattle.engine_requests.specs.ReferrerLists.{referrers_text, referrers_url, w
 use Rattle.engine_rows.specs.Rows.{whole, prepared}
 use Rattle.engine_rows.specs.Pulls.{document, manifest_document, manifest_asked}
 use Rattle.engine_rows.specs.Referrers.{referrers_asked}
-use Rattle.engine_laws.specs.Causes.{Sends, AsksAt, ManifestUrl, LastAnswer, AnswerCause, OwnDigest}
-use Rattle.engine_laws.specs.Referrers.{ListUrl, ListAnswer}
+use Rattle.engine_rows.specs.Causes.{Sends, AsksAt, ManifestUrl, LastAnswer, AnswerCause, OwnDigest}
+use Rattle.engine_rows.specs.ReferrersCauses.{ListUrl, ListAnswer}
 use Rattle.engine_laws.proofs.DocumentCauses.{asks_at, Accepted, OwnCause, answer_later, cause_later, last_later, into_err, url_cause, early_shown, whole_causes, document_causes}
 use Rattle.engine_laws.proofs.EarlyCauses.{Loose, prepared_causes}
 use Rattle.engine_laws.proofs.ManifestCauses.{ReadLast, ManifestCause, raw_where, document_refused}

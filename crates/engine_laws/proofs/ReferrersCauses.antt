@@ -35,10 +35,10 @@ use Rattle.engine_answers.specs.Referrers.{index_in, index_read, referrers_in, r
 use Rattle.engine_requests.specs.ReferrerLists.{digest_given}
 use Rattle.engine_rows.specs.Pulls.{manifest_asked}
 use Rattle.engine_rows.specs.Referrers.{referrers_asked, referrers_tagged, referrers_by, pull_referrers}
-use Rattle.engine_laws.specs.Causes.{Act, Cause, AnswerCause, DocumentCause, LastAnswer, BadHeader, OwnDigest, ManifestUrl}
-use Rattle.engine_laws.specs.TokenCauses.{LastIs}
-use Rattle.engine_laws.specs.Held.{Entry, pulling}
-use Rattle.engine_laws.specs.Referrers.{AfterMissing, ListUrl, IsNoIndex, ListAnswer, TagAnswer, ListCause, TagCause, ReferrersCause}
+use Rattle.engine_rows.specs.Causes.{Act, Cause, AnswerCause, DocumentCause, LastAnswer, BadHeader, OwnDigest, ManifestUrl}
+use Rattle.engine_rows.specs.TokenCauses.{LastIs}
+use Rattle.engine_rows.specs.Held.{Entry, pulling}
+use Rattle.engine_rows.specs.ReferrersCauses.{AfterMissing, ListUrl, IsNoIndex, ListAnswer, TagAnswer, ListCause, TagCause, ReferrersCause}
 use Rattle.engine_laws.proofs.CallCauses.{tight}
 use Rattle.engine_laws.proofs.DocumentAnswers.{accepted_is}
 use Rattle.engine_laws.proofs.DocumentCauses.{into_err, not_accepted, status_is, status_other}

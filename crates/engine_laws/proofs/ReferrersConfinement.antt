@@ -27,9 +27,9 @@ use Rattle.engine_requests.specs.ReferrerLists.{digest_given, referrers_url}
 use Rattle.engine_rows.specs.Rows.{Row, prepared, token_given}
 use Rattle.engine_rows.specs.Pulls.{manifest_document, manifest_asked}
 use Rattle.engine_rows.specs.Referrers.{referrers_asked, referrers_tagged, referrers_by, pull_referrers}
-use Rattle.engine_laws.specs.Confined.{Confined, AllConfined, Within}
-use Rattle.engine_laws.specs.Held.{Entry, pulling}
-use Rattle.engine_laws.specs.Referrers.{for_tag, ListUrl, WithinReferrers}
+use Rattle.engine_rows.specs.Confined.{Confined, AllConfined, Within}
+use Rattle.engine_rows.specs.Held.{Entry, pulling}
+use Rattle.engine_rows.specs.ReferrersCauses.{for_tag, ListUrl, WithinReferrers}
 use Rattle.engine_laws.proofs.CallConfinement.{Any, given_safe}
 use Rattle.engine_laws.proofs.DocumentCauses.{answer_later, status_is}
 use Rattle.engine_laws.proofs.HeaderCauses.{Sound, whole_sound, document_sound}

@@ -17,7 +17,7 @@ use Rattle.engine_terms.specs.declared.error.OciDistributionError.{OciDistributi
 use Rattle.engine_terms.specs.declared.error.OciDistributionError.TheVariants as refusal
 use Rattle.engine_rows.specs.Rows.{Row, whole, prepared}
 use Rattle.engine_rows.specs.Referrers.{referrers_asked, referrers_by, pull_referrers}
-use Rattle.engine_laws.specs.Causes.{IsEarly, HasBadHeader}
+use Rattle.engine_rows.specs.Causes.{IsEarly, HasBadHeader}
 use Rattle.engine_laws.proofs.ExactRefusals.{Only, after_refusal, handed_on, early_on, prepared_bad}
 
 -- the digest is present

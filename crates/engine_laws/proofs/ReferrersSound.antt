@@ -20,8 +20,8 @@ use Rattle.engine_answers.specs.Referrers.{referrers_in, fallback_reference}
 use Rattle.engine_requests.specs.ReferrerLists.{digest_given}
 use Rattle.engine_rows.specs.Rows.{Row}
 use Rattle.engine_rows.specs.Referrers.{referrers_asked, referrers_tagged, referrers_by, pull_referrers}
-use Rattle.engine_laws.specs.Confined.{ToRegistry, ToRealm, MayCarry}
-use Rattle.engine_laws.specs.Held.{pulling}
+use Rattle.engine_rows.specs.Confined.{ToRegistry, ToRealm, MayCarry}
+use Rattle.engine_rows.specs.Held.{pulling}
 use Rattle.engine_laws.proofs.RequestConfinement.{each_more}
 use Rattle.engine_laws.proofs.HeaderCauses.{Sound}
 use Rattle.engine_laws.proofs.KeptTokens.{Keeps}

@@ -19,8 +19,8 @@ use Rattle.oci_auth.specs.Auth.{authorization_of}
 use Rattle.oci_auth.specs.declared.token_type.RegistryTokenType.{RegistryTokenType}
 use Rattle.engine_terms.specs.declared.settings.Settings.{Settings}
 use Rattle.engine_requests.specs.Requests.{with_accept, with_token, request_of}
-use Rattle.engine_laws.specs.Confined.{ToRegistry, MayCarry, Each, Confined}
-use Rattle.engine_laws.specs.Held.{Entry, IsHeld}
+use Rattle.engine_rows.specs.Confined.{ToRegistry, MayCarry, Each, Confined}
+use Rattle.engine_rows.specs.Held.{Entry, IsHeld}
 use Rattle.engine_laws.proofs.KeptTokens.{held_more}
 use Rattle.engine_laws.proofs.PreparedRequests.{with_ok, made_of}
 

@@ -47,11 +47,11 @@ use Rattle.oci_transport.specs.declared.message.Answer.{Answer}
 use Rattle.oci_transport.specs.Link.{answer_of}
 use Rattle.oci_protocol.specs.Runs.{head_part}
 use Rattle.engine_requests.specs.Tokens.{realm_url}
-use Rattle.engine_laws.specs.Held.{Entry, IsAuth, GivenIn, IsHeld}
-use Rattle.engine_laws.specs.Confined.{ToRealm, MayCarry, Each, Confined}
+use Rattle.engine_rows.specs.Held.{Entry, IsAuth, GivenIn, IsHeld}
+use Rattle.engine_rows.specs.Confined.{ToRealm, MayCarry, Each, Confined}
 use Rattle.engine_laws.proofs.RequestConfinement.{values_by, request_values, request_url_is, request_method_is, SentValue, Sent, sent_confined, sent_moves}
 use Rattle.engine_laws.proofs.SafeMore.{Safe-more}
-use Rattle.engine_laws.specs.Causes.{HasBadHeader, HasBadToken, BadHeader}
+use Rattle.engine_rows.specs.Causes.{HasBadHeader, HasBadToken, BadHeader}
 use Rattle.engine_laws.proofs.PreparedRequests.{with_ok, accept_none}
 use Rattle.engine_laws.proofs.KeptTokens.{Keeps, keeps_more, keeps_stored, keeps_kept}
 

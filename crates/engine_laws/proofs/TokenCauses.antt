@@ -42,7 +42,7 @@ use Rattle.engine_requests.specs.Addresses.{url_or, url_read, base_text}
 use Rattle.engine_requests.specs.Requests.{with_header, with_accept, with_token, headers_of, request_of, bare_request}
 use Rattle.engine_requests.specs.Tokens.{wanted, realm_url, realm_request, decoded, token_read}
 use Rattle.engine_rows.specs.Rows.{Row, recalled, keep, store, with_kept, shown_text, whole_reply, whole, head_reply, head_after, realm_asked, fetched, registry_asked, token_step, kept_text, token_given}
-use Rattle.engine_laws.specs.TokenCauses.{LastIs, WithAnswer, LastRealm, TokenUrl, TokenCause}
+use Rattle.engine_rows.specs.TokenCauses.{LastIs, WithAnswer, LastRealm, TokenUrl, TokenCause}
 use Rattle.engine_laws.proofs.PreparedRequests.{with_ok}
 use Rattle.engine_laws.proofs.DocumentCauses.{status_is, status_other}
 use Rattle.engine_laws.proofs.FaultCounts.{last_after, refusal_told, fault_last}

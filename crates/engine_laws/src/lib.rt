@@ -1,3 +1,3 @@
-//! The properties of every run of the rows of the client's calls: which response a result comes from, why a call was
-//! refused, and where credentials go. Contains only definitions and laws.
+//! What every run of the rows of the client's calls shows: whose answer an answer is, why a call was refused, and where
+//! credentials go. It has laws alone.
 #![tactic(auto)]

@@ -1,1 +1,2 @@
 pub mod ImageParts
+pub mod TagLists

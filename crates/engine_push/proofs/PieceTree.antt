@@ -13,8 +13,8 @@ use Rattle.oci_auth.specs.declared.auth_state.AuthState.{AuthState}
 use Rattle.oci_protocol.specs.Proto.{Done, ◌>>=◌}
 use Rattle.oci_protocol.specs.Runs.{Meets, Told}
 use Rattle.oci_protocol.proofs.Laws.{Meets-consult, Meets-err, Meets-ok, Meets-memory, Meets-refused}
-use Rattle.pull_edge.specs.Source.{SourceState, Takes}
-use Rattle.pull_edge.proofs.Springs.{Consumes-none, Consumes-then}
+use Rattle.byte_streams.specs.Source.{SourceState, Takes}
+use Rattle.byte_streams.proofs.Springs.{Consumes-none, Consumes-then}
 use Rattle.engine_terms.specs.Contexts.{Context}
 use Rattle.engine_terms.specs.Error.{is_memory}
 use Rattle.engine_terms.specs.declared.error.OciDistributionError.{OciDistributionError}

@@ -13,7 +13,7 @@ use Rattle.oci_protocol.specs.Proto.{Done, ◌>>=◌}
 use Rattle.oci_protocol.specs.Runs.{Meets, Told}
 use Rattle.oci_protocol.proofs.Conversations.{Extends-more}
 use Rattle.oci_protocol.proofs.Laws.{Meets-refused}
-use Rattle.pull_edge.specs.Source.{SourceState, Takes}
+use Rattle.byte_streams.specs.Source.{SourceState, Takes}
 use Rattle.engine_terms.specs.Contexts.{Context}
 use Rattle.engine_terms.specs.Error.{is_memory}
 use Rattle.engine_terms.specs.declared.error.GenericCause.TheVariants.{NoSize}

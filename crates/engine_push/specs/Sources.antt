@@ -8,7 +8,7 @@ use Rattle.oci_digests.specs.declared.digester.Algorithm.TheVariants.{Sha256}
 use Rattle.oci_digests.specs.declared.digester.Digester.{Digester}
 use Rattle.oci_transport.specs.Link.{Link}
 use Rattle.oci_protocol.specs.Runs.{Told}
-use Rattle.pull_edge.specs.Source.{SourceState, Takes}
+use Rattle.byte_streams.specs.Source.{SourceState, Takes}
 use Rattle.engine_terms.specs.declared.error.OciDistributionError.{OciDistributionError}
 use Rattle.engine_terms.specs.declared.error.OciDistributionError.TheVariants as refusal
 use Rattle.engine_terms.specs.declared.error.GenericCause.TheVariants.{NoSize, SizeDiffers}

@@ -4,12 +4,16 @@
 mod bytes;
 mod content;
 mod locations;
+mod memory_pieces;
 mod mounting;
+mod piece_source;
 mod pieces;
 mod stream;
 mod uploads;
 
 pub use bytes::push_blob;
 pub use content::Content;
+pub use memory_pieces::MemoryPieces;
 pub use mounting::mount_blob;
+pub use piece_source::PieceSource;
 pub use stream::{PushBlobStreamChunkedResponse, push_blob_stream, push_blob_stream_chunked};

@@ -2,7 +2,7 @@
 ghost use Rattle.std.specs.Prelude.{◌≡◌, ◌≤◌, ◌++◌, [], ℕ, List, IfOk, IfErr, is_some};
 ghost use Rattle.std.specs.Io.KnownBytes.{IsAtEnd};
 ghost use Rattle.json_values.specs.Counts.{Increased};
-ghost use Rattle.pull_edge.specs.Source.{Takes};
+ghost use Rattle.byte_streams.specs.Source.{Takes};
 ghost use Rattle.oci_auth.specs.declared.auth_state.AuthState.{AuthState};
 ghost use Rattle.oci_transport.specs.Link.{Link};
 ghost use Rattle.oci_protocol.specs.Runs.{Meets};
@@ -12,12 +12,12 @@ ghost use Rattle.engine_push.specs.Uploads.{next_piece, all_sent, all_read};
 ghost use Rattle.engine_push.specs.Sources.{Pushes, AllConsumed, TookAll, NoPiece, NotHeld, NotSent};
 ghost use Rattle.engine_push.specs.Sources.{Hashed, IsUpload, sent_in};
 
+use crate::piece_source::PieceSource;
 use crate::uploads::chunks_sent;
 use engine_terms::{Call, OciDistributionError};
 use json_values::{Blob, Copied, Text};
 use oci_auth::AuthState;
 use oci_digests::Digester;
-use oci_pieces::PieceSource;
 use oci_transport::{LinkError, Transport};
 use std::alloc::Global;
 

@@ -8,13 +8,13 @@ ghost use Rattle.engine_push.specs.Calls.{stream_whole, stream_chunked, push_blo
 ghost use Rattle.engine_push.specs.Sources.{Pushes, NotSent, SourceCause};
 
 use crate::content::Content;
+use crate::piece_source::PieceSource;
 use crate::pieces::{Upload, pieces_read, pieces_sent};
 use crate::uploads::{upload_begun, upload_ended};
 use engine_terms::{Call, GenericCause, OciDistributionError};
 use json_values::{Copied, Text, copied};
 use oci_auth::AuthState;
 use oci_digests::{Algorithm, Digester};
-use oci_pieces::PieceSource;
 use oci_transport::Transport;
 use std::alloc::{AllocError, Global};
 

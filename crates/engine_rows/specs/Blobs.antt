@@ -1,7 +1,7 @@
 -- One request for a blob, and which of its bytes a sink holds.
 use Rattle.std.specs.Prelude.{◌≡◌, ◌≤◌, ◌⊎◌, ℕ, true, List, [], ◌∷◌, ◌++◌, Some, Result, Ok, Err}
 use Rattle.json_values.specs.Counts.{Increased}
-use Rattle.json_values.specs.SinkState.{SinkState, Adds}
+use Rattle.byte_streams.specs.SinkState.{SinkState, Adds}
 use Rattle.oci_transport.specs.Link.{Link}
 use Rattle.oci_transport.specs.declared.message.Request.{Request}
 use Rattle.oci_transport.specs.declared.message.Answer.{Answer}

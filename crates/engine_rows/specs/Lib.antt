@@ -1,7 +1,13 @@
+pub mod Answered
 pub mod Blobs
+pub mod Causes
+pub mod Confined
+pub mod Held
 pub mod Image
 pub mod Manifests
 pub mod Offers
 pub mod Pulls
 pub mod Referrers
+pub mod ReferrersCauses
 pub mod Rows
+pub mod TokenCauses

@@ -2,7 +2,7 @@
 -- lists, in order, while the status is 4xx or 5xx (OCI image specification, descriptor.md, `urls`).
 use Rattle.std.specs.Prelude.{◌≡◌, ◌⊎◌, ℕ, Bool, true, false, List, [], ◌∷◌, Option, Some, None, Result, Ok, Err}
 use Rattle.std.specs.Prelude.{if◌then◌else◌}
-use Rattle.json_values.specs.SinkState.{SinkState}
+use Rattle.byte_streams.specs.SinkState.{SinkState}
 use Rattle.oci_transport.specs.Link.{Link}
 use Rattle.oci_transport.specs.declared.message.Request.{Request}
 use Rattle.oci_transport.specs.declared.message.AnswerHead.{AnswerHead}

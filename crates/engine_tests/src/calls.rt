@@ -1,7 +1,8 @@
 // Each call of the engine's client.
 ghost use Rattle.std.specs.Prelude.{◌≡◌};
 
-use json_values::{Blob, List, MemorySink, PlainSink, Text};
+use byte_streams::{MemorySink, PlainSink};
+use json_values::{Blob, List, Text};
 use oci_auth::{RegistryAuth, RegistryOperation};
 use oci_engine::{
     AsLayerDescriptor, Client, ClientConfig, ImageData, LayerDescriptor, OciDistributionError,
@@ -9,8 +10,10 @@ use oci_engine::{
 use oci_manifests::OciManifest;
 use oci_names::Reference;
 use oci_transport::Script;
+use recorded_answers::{
+    CONFIG_DIGEST, LAYER_DIGEST, LAYER_TYPE, MANIFEST, MANIFEST_DIGEST, script,
+};
 use std::alloc::{AllocError, Global};
-use test_answers::{CONFIG_DIGEST, LAYER_DIGEST, LAYER_TYPE, MANIFEST, MANIFEST_DIGEST, script};
 
 // A client, and the image that it requests.
 fn begun(alloc: Global) -> Option<(Client, Reference)> {

@@ -1,4 +1,4 @@
-//! Tests of the calls that users make of the engine's client.
+//! Tests of the calls that users make of the engine's client, and of blobs that are given piece by piece.
 #![tactic(auto)]
 
 #[cfg(test)]
@@ -8,4 +8,8 @@ mod clients;
 #[cfg(test)]
 mod pushes;
 #[cfg(test)]
+mod recorded;
+#[cfg(test)]
 mod referrers;
+#[cfg(test)]
+mod streams;

@@ -7,8 +7,8 @@ use oci_auth::RegistryAuth;
 use oci_engine::{Client, ClientConfig, ClientProtocol, MemoryPieces};
 use oci_names::Reference;
 use oci_transport::{Headers, Method, Recorded, Script};
+use recorded_answers::LAYER_DIGEST;
 use std::alloc::{AllocError, Global};
-use test_answers::LAYER_DIGEST;
 
 // A registry that responds with these statuses and locations, in order, and no body.
 fn registry(alloc: Global, given: &[(u16, &str)]) -> Result<Script, AllocError> {

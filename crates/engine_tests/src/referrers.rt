@@ -7,8 +7,8 @@ use oci_engine::{Client, ClientConfig, OciDistributionError};
 use oci_manifests::OciImageIndex;
 use oci_names::Reference;
 use oci_transport::{Headers, Recorded, Script};
+use recorded_answers::{MANIFEST, MANIFEST_DIGEST};
 use std::alloc::{AllocError, Global};
-use test_answers::{MANIFEST, MANIFEST_DIGEST};
 
 // Two entries, of which one has an artifact type.
 const INDEX: &str =

@@ -1,11 +1,12 @@
 // Pulls over a shelf that fails.
 use cosign_client::{Client, ClientBuilder, PullRefusal, VerifiedImage};
-use cosign_layers::{PullPolicy, TableVerifier};
+use cosign_layers::PullPolicy;
+use cosign_parts::TableVerifier;
 use json_values::{Blob, Copied, List};
 use oci_link::{FaultyShelf, Shelf};
 use oci_transport::Transport;
-use pull_case::Case;
 use pull_report::{drop_outcome, write_outcome};
+use recorded_case::Case;
 use sig_registry::{Auth, ClientConfig, ClientProtocol, OciReference};
 use std::alloc::{AllocError, Global};
 

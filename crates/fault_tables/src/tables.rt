@@ -1,13 +1,14 @@
 // The results of the pulls, line by line.
-ghost use Rattle.pull_case.specs.Case.{IsReady};
+ghost use Rattle.recorded_case.specs.Case.{IsReady};
 
 use crate::pulls::{Pulled, Terms, pull_over};
-use cosign_layers::{PullPolicy, TableVerifier};
+use cosign_client::image_in;
+use cosign_layers::PullPolicy;
+use cosign_parts::TableVerifier;
 use json_values::{Blob, Copied, List, write_decimal};
 use oci_link::Shelf;
-use pull_case::{Case, Registry, constraints_from};
 use pull_report::text_line;
-use pull_setup::image_in;
+use recorded_case::{Case, Registry, constraints_from};
 use sig_registry::Auth;
 use std::alloc::{AllocError, Global};
 

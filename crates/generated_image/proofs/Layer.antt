@@ -12,15 +12,15 @@ use Rattle.oci_digests.specs.Names.{names, Names}
 use Rattle.oci_digests.specs.declared.digester.Algorithm.TheVariants.{Sha256}
 use Rattle.oci_digests.proofs.Equal.{named}
 use Rattle.cosign_layers.specs.Checks.{Input, input, unless, content_checked, signature_checked, entry_checked, certificate_checked, layer_read, layer_with}
-use Rattle.cosign_layers.specs.Payload.{content_of}
+use Rattle.cosign_parts.specs.Payload.{content_of}
 use Rattle.cosign_layers.specs.Rejection.{◌>>=◌}
-use Rattle.cosign_layers.specs.Shown.{Notes, shown, is_about, payload_shown, noted_entry, noted_certificate}
-use Rattle.cosign_layers.specs.Trust.{Trust, knows_no_log}
-use Rattle.cosign_layers.specs.declared.layer.LayerKind.TheVariants as kinds
-use Rattle.cosign_layers.specs.declared.layer.SignatureLayer.{SignatureLayer}
-use Rattle.cosign_layers.specs.declared.layer.SimpleSigning.{SimpleSigning}
-use Rattle.cosign_layers.specs.declared.log_entry.LogEntryBundle.{LogEntryBundle}
-use Rattle.cosign_layers.specs.declared.certificate.CertificateSignature.{CertificateSignature}
+use Rattle.cosign_parts.specs.Shown.{Notes, shown, is_about, payload_shown, noted_entry, noted_certificate}
+use Rattle.cosign_parts.specs.Trust.{Trust, knows_no_log}
+use Rattle.cosign_parts.specs.declared.layer.LayerKind.TheVariants as kinds
+use Rattle.cosign_parts.specs.declared.layer.SignatureLayer.{SignatureLayer}
+use Rattle.cosign_parts.specs.declared.layer.SimpleSigning.{SimpleSigning}
+use Rattle.cosign_parts.specs.declared.log_entry.LogEntryBundle.{LogEntryBundle}
+use Rattle.cosign_parts.specs.declared.certificate.CertificateSignature.{CertificateSignature}
 use Rattle.cosign_layers.specs.declared.rejection.LayerPart.TheVariants.{Signature}
 use Rattle.cosign_layers.specs.declared.rejection.LayerRejection.{LayerRejection}
 use Rattle.cosign_layers.specs.declared.rejection.LayerRejection.TheVariants as rejections

@@ -7,8 +7,8 @@ use Rattle.serde_json.specs.Read.{of_json}
 use Rattle.serde_json.specs.Written.{outline, compact_text}
 use Rattle.json_values.specs.JsonText.{json_of, plain_json_of, is_plain}
 use Rattle.json_tables.specs.Reading.{◌>>=◌}
-use Rattle.cosign_layers.specs.Payload.{payload_of, content_of}
-use Rattle.cosign_layers.specs.declared.layer.SimpleSigning.{SimpleSigning}
+use Rattle.cosign_parts.specs.Payload.{payload_of, content_of}
+use Rattle.cosign_parts.specs.declared.layer.SimpleSigning.{SimpleSigning}
 use Rattle.generated_image.specs.Texts.{sha256_text, payload_text}
 use Rattle.generated_image.proofs.Plain.{AllShow, concat_shows, digest_shows, digest_stays, shown_utf8}
 use Rattle.generated_image.proofs.PlainTexts.{json_compact}

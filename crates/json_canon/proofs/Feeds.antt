@@ -3,8 +3,8 @@ use Rattle.std.proofs.Common.{◌≡◌, ℕ, ◌≤◌, arith, List, [], ◌∷
 use Rattle.std.specs.Result.{IsErrAnd}
 use Rattle.serde_json.specs.Data.{Data, Items, item, Members, member}
 use Rattle.json_values.specs.Counts.{Increased}
-use Rattle.json_values.specs.SinkState.{SinkState, Adds, AddsPrefix}
-use Rattle.json_values.proofs.Sinks.{adds_more}
+use Rattle.byte_streams.specs.SinkState.{SinkState, Adds, AddsPrefix}
+use Rattle.byte_streams.proofs.Sinks.{adds_more}
 use Rattle.json_events.specs.declared.error.CanonError.{CanonError}
 use Rattle.json_events.specs.declared.error.CanonError.TheVariants.{SinkFault, WantOfMemory}
 use Rattle.json_events.specs.Drafts.{Stage, step, run}

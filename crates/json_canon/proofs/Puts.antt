@@ -2,7 +2,7 @@
 use Rattle.std.proofs.Common.{◌≡◌, ℕ, List, [], Option, Some, None, Result, Ok, Err, refl, sym, ap, subst, ◌∙◌, inl, inr, arith}
 use Rattle.std.specs.Result.{IsErrAnd}
 use Rattle.serde_json.specs.Data.{Data}
-use Rattle.json_values.specs.SinkState.{SinkState, Adds, AddsPrefix}
+use Rattle.byte_streams.specs.SinkState.{SinkState, Adds, AddsPrefix}
 use Rattle.json_events.specs.declared.error.CanonError.{CanonError}
 use Rattle.json_events.specs.declared.error.CanonError.TheVariants.{Float, IntegerOutOfRange, DuplicateKey, RawFragment, NotWellNested, Unreadable, SinkFault, WantOfMemory}
 use Rattle.json_events.specs.Canonical.{Canonical}

@@ -1,6 +1,6 @@
 -- The effect of a list of event calls.
 use Rattle.std.specs.Prelude.{◌≡◌, List, ◌⊎◌, Some, None, Result, Ok, Err}
-use Rattle.json_values.specs.SinkState.{SinkState, Adds}
+use Rattle.byte_streams.specs.SinkState.{SinkState, Adds}
 use Rattle.json_events.specs.declared.error.CanonError.{CanonError}
 use Rattle.json_events.specs.Drafts.{Stage, run}
 use Rattle.json_events.specs.Events.{Event}

@@ -20,5 +20,5 @@ pub use Rattle.json_values.specs.Coding
 pub use Rattle.json_values.specs.Counts
 pub use Rattle.json_values.specs.JsonText
 pub use Rattle.json_values.specs.Places
-pub use Rattle.json_values.specs.Sinks
-pub use Rattle.json_values.specs.SinkState
+pub use Rattle.byte_streams.specs.Sinks
+pub use Rattle.byte_streams.specs.SinkState

@@ -3,7 +3,7 @@ use Rattle.std.specs.Prelude.{◌≡◌, ℕ, List, Some, None, Result, Ok, Err,
 use Rattle.serde_json.specs.Data.{Data}
 use Rattle.json_values.specs.Counts.{Increased}
 use Rattle.json_values.specs.JsonText.{json_of}
-use Rattle.json_values.specs.SinkState.{SinkState, Adds, AddsPrefix}
+use Rattle.byte_streams.specs.SinkState.{SinkState, Adds, AddsPrefix}
 use Rattle.json_events.specs.declared.error.CanonError.{CanonError}
 use Rattle.json_events.specs.declared.error.CanonError.TheVariants.{Float, IntegerOutOfRange}
 use Rattle.json_events.specs.declared.error.CanonError.TheVariants.{Unreadable, SinkFault}

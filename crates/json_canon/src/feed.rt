@@ -9,8 +9,8 @@ ghost use Rattle.json_canon.specs.Feeding.{Fed};
 ghost use Rattle.json_events.specs.Formatters.{stage_of};
 ghost use Rattle.json_events.specs.Spelling.{spelled};
 
+use byte_streams::Sink;
 use json_events::{CanonError, JcsFormatter};
-use json_values::Sink;
 use serde_json::{Map, Number, Value};
 
 #[cycle(feed)]

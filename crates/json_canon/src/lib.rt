@@ -7,13 +7,13 @@ mod serializer;
 mod walk;
 mod whole;
 
+pub use byte_streams::{MemorySink, PlainSink, Sink, SinkError, put_all};
 pub use json_events::{
     CanonError, JcsFormatter, JsonProperty, events_write, first_refusal_has_its_cause, one_text,
     order_of_names,
 };
 pub use json_values::{
-    Annotations, Blob, Copied, Json, List, MemorySink, PlainSink, Sink, SinkError, Text, TextMap,
-    TextSet, ToValue, put_all, read_json, write_quoted,
+    Annotations, Blob, Copied, Json, List, Text, TextMap, TextSet, ToValue, read_json, write_quoted,
 };
 pub use laws::texts_tell_values;
 pub use serializer::JcsSerializer;

@@ -3,8 +3,9 @@ ghost use Rattle.json_events.specs.Values.{IsValue};
 ghost use Rattle.json_canon.specs.Outcomes.{WritesText};
 
 use crate::whole::to_writer;
+use byte_streams::Sink;
 use json_events::CanonError;
-use json_values::{Sink, ToValue};
+use json_values::ToValue;
 use std::alloc::Global;
 
 /// Writes canonical texts one after another to its sink.

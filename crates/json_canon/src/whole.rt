@@ -7,8 +7,9 @@ ghost use Rattle.json_events.specs.Values.{IsValue};
 
 use crate::feed::feed;
 use crate::walk::refusal;
+use byte_streams::{PlainSink, Sink};
 use json_events::{CanonError, JcsFormatter};
-use json_values::{Blob, Json, PlainSink, Sink, Text, ToValue, read_json};
+use json_values::{Blob, Json, Text, ToValue, read_json};
 use serde_json::Value;
 use std::alloc::Global;
 

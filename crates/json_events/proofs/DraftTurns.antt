@@ -1,7 +1,7 @@
 -- Turns and their results, over plain drafts.
 use Rattle.std.proofs.Common.{◌≡◌, ℕ, List, [], ◌∷◌, Bool, true, if◌then◌else◌, Option, Some, None, Result, Ok, Err, refl, sym, ap, subst, ◌∙◌, inl, inr}
-use Rattle.json_values.specs.SinkState.{SinkState, Adds, AddsPrefix}
-use Rattle.json_values.proofs.Sinks.{adds_none}
+use Rattle.byte_streams.specs.SinkState.{SinkState, Adds, AddsPrefix}
+use Rattle.byte_streams.proofs.Sinks.{adds_none}
 use Rattle.json_events.specs.declared.error.CanonError.{CanonError}
 use Rattle.json_events.specs.declared.error.CanonError.TheVariants.{NotWellNested, DuplicateKey}
 use Rattle.json_events.specs.Drafts.{Draft, Turn, refused, moves, Level, act, carried_out, by_key, is_at, only_at, where_around, writes, ends_array, ends_object, ends_member}

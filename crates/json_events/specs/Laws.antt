@@ -16,7 +16,7 @@ use Rattle.json_events.specs.Values.{IsValue}
 use Rattle.json_events.specs.WellNested.{first_bad}
 use Rattle.json_events.specs.declared.error.CanonError.{CanonError}
 use Rattle.json_events.specs.declared.formatter.JcsFormatter.{JcsFormatter}
-use Rattle.json_values.specs.SinkState.{SinkState, Adds}
+use Rattle.byte_streams.specs.SinkState.{SinkState, Adds}
 
 -- a value has at most one text
 abbrev pub OneText : Type 0

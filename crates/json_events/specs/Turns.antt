@@ -1,7 +1,7 @@
 -- What an event call returns.
 use Rattle.std.specs.Prelude.{◌≡◌, ℕ, List, [], ◌∷◌, ◌⊎◌, Option, Some, None, Result, Ok, Err}
 use Rattle.json_values.specs.Counts.{Increased}
-use Rattle.json_values.specs.SinkState.{SinkState, Adds, AddsPrefix}
+use Rattle.byte_streams.specs.SinkState.{SinkState, Adds, AddsPrefix}
 use Rattle.json_events.specs.declared.error.CanonError.{CanonError}
 use Rattle.json_events.specs.declared.error.CanonError.TheVariants.{SinkFault, WantOfMemory}
 use Rattle.json_events.specs.Drafts.{Level, Draft, Turn, refused, moves, Stage, step}

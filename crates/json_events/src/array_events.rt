@@ -5,7 +5,7 @@ use crate::error::CanonError;
 use crate::formatter::{JcsFormatter, kept};
 use crate::spot::Spot;
 use crate::turns::{begin_array, begin_item, end_array, move_on};
-use json_values::Sink;
+use byte_streams::Sink;
 
 impl JcsFormatter {
     ghost use Rattle.json_events.specs.Events.{begin_array, begin_array_value, end_array_value};

@@ -5,7 +5,7 @@ use crate::error::CanonError;
 use crate::formatter::{JcsFormatter, kept};
 use crate::spot::Spot;
 use crate::turns::{begin_object, end_member, end_object, move_on};
-use json_values::Sink;
+use byte_streams::Sink;
 
 impl JcsFormatter {
     ghost use Rattle.json_events.specs.Events.{begin_object, begin_object_key, end_object_key};

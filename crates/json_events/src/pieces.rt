@@ -9,7 +9,8 @@ use crate::error::CanonError;
 use crate::members::{Members, with_object};
 use crate::spot::Spot;
 use crate::state::{Container, State};
-use json_values::{Blob, Sink, SinkError, put_all};
+use byte_streams::{Sink, SinkError, put_all};
+use json_values::Blob;
 use std::alloc::{AllocError, Global};
 use std::mem;
 

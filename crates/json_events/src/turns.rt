@@ -15,7 +15,8 @@ use crate::property::JsonProperty;
 use crate::scalars::{integer_text, refused_integer, string_text};
 use crate::spot::Spot;
 use crate::state::{Container, State};
-use json_values::{Blob, Sink};
+use byte_streams::Sink;
+use json_values::Blob;
 use std::alloc::Global;
 use std::mem;
 

@@ -6,7 +6,7 @@ use crate::formatter::{JcsFormatter, kept};
 use crate::scalars::truth_word;
 use crate::spot::Spot;
 use crate::turns::{move_on, place, refuse_value, take_string, take_whole};
-use json_values::Sink;
+use byte_streams::Sink;
 
 impl JcsFormatter {
     ghost use Rattle.json_events.specs.Events.{write_null, write_bool, write_integer, write_float};

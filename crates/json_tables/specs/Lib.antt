@@ -1,4 +1,6 @@
+pub mod Again
 pub mod Bytes
+pub mod Fields
 pub mod Member
 pub mod Objects
 pub mod Outcomes
@@ -6,3 +8,4 @@ pub mod Paths
 pub mod Plain
 pub mod Reading
 pub mod Rows
+pub mod WrittenRows

@@ -5,4 +5,3 @@ pub mod Halves
 pub mod JsonTexts
 pub mod Maps
 pub mod Refusals
-pub mod Sinks

@@ -5,6 +5,4 @@ pub mod Equalities
 pub mod JsonText
 pub mod Places
 pub mod Refusals
-pub mod Sinks
-pub mod SinkState
 pub mod Writing

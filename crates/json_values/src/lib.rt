@@ -1,4 +1,4 @@
-//! The value types that all crates share, byte sinks, and canonical strings.
+//! The values that all crates share, and the canonical text of a text.
 #![tactic(auto)]
 
 mod blob;
@@ -8,13 +8,10 @@ mod decimal;
 mod json_value;
 mod list;
 mod map;
-mod memory_sink;
 mod numbers;
-mod plain_sink;
 mod quoted;
 mod read;
 mod set;
-mod sink;
 mod text;
 mod to_value;
 
@@ -25,11 +22,8 @@ pub use decimal::write_decimal;
 pub use json_value::Json;
 pub use list::List;
 pub use map::{Annotations, TextMap};
-pub use memory_sink::MemorySink;
-pub use plain_sink::PlainSink;
 pub use quoted::write_quoted;
 pub use read::read_json;
 pub use set::TextSet;
-pub use sink::{Sink, SinkError, put_all};
 pub use text::Text;
 pub use to_value::ToValue;

@@ -1,7 +1,7 @@
 -- A maker of keys of one kind.
 use Rattle.std.specs.Prelude.{ℕ, List, nat_eq, if◌then◌else◌, Option, Some, None}
-use Rattle.sig_schemes.specs.declared.scheme.KeyKind.{KeyKind}
-use Rattle.sig_schemes.specs.declared.scheme.KeyKind.TheVariants.{P256, P384, P521, Ed25519, Rsa}
+use Rattle.key_schemes.specs.declared.scheme.KeyKind.{KeyKind}
+use Rattle.key_schemes.specs.declared.scheme.KeyKind.TheVariants.{P256, P384, P521, Ed25519, Rsa}
 
 abbrev pub place_of : KeyKind → ℕ
 place_of P256 = 0

@@ -1,9 +1,7 @@
 // The check that a layer fails first.
 use crate::trusted::{SOURCE, log_keys, verifier};
-use cosign_layers::{
-    LayerPart, LayerRejection, NoCertificates, SignatureLayer, read_bundle_layer,
-    read_payload_layer,
-};
+use cosign_layers::{LayerPart, LayerRejection, read_bundle_layer, read_payload_layer};
+use cosign_parts::{NoCertificates, SignatureLayer};
 use json_values::{Annotations, Blob, Text};
 use oci_digests::sha256_digest;
 use std::alloc::{AllocError, Global};

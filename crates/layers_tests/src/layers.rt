@@ -1,8 +1,10 @@
 // Signature layers that are read and judged on their own.
 use cosign_layers::{
-    CertificateSignature, Constraint, Evidence, LayerKind, Offline, PullPolicy, SignatureLayer,
-    SignedRow, TableJudge, TableVerifier, VerificationConstraint, Vouched, VouchedRow,
-    first_satisfying, log_texts_are_canonical, satisfies_policy, signed_text,
+    Constraint, PullPolicy, VerificationConstraint, first_satisfying, satisfies_policy,
+};
+use cosign_parts::{
+    CertificateSignature, Evidence, LayerKind, Offline, SignatureLayer, SignedRow, TableJudge,
+    TableVerifier, Vouched, VouchedRow, log_texts_are_canonical, signed_text,
 };
 use json_values::{Annotations, Blob, List, Text};
 use std::alloc::{AllocError, Global};

@@ -1,5 +1,5 @@
 // Whom the readers of the tests trust.
-use cosign_layers::{LogKeys, SignedRow, TableVerifier};
+use cosign_parts::{LogKeys, SignedRow, TableVerifier};
 use json_values::{Blob, List, Text, TextMap};
 use std::alloc::{AllocError, Global};
 

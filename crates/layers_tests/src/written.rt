@@ -1,9 +1,9 @@
 // A bundle in the form that current tools write, whose certificate names a workflow.
 use crate::trusted::{SOURCE, log_keys, verifier};
 use cosign_layers::{
-    CertSubjectUrlVerifier, Constraint, PullPolicy, SignatureLayer, TableJudge, Vouched,
-    VouchedRow, read_bundle_layer, satisfies_policy,
+    CertSubjectUrlVerifier, Constraint, PullPolicy, read_bundle_layer, satisfies_policy,
 };
+use cosign_parts::{SignatureLayer, TableJudge, Vouched, VouchedRow};
 use json_values::{Annotations, Blob, List, Text};
 use std::alloc::{AllocError, Global};
 

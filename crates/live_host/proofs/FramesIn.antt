@@ -2,16 +2,16 @@
 use Rattle.std.proofs.Common.{◌≡◌, ℕ, ◌≤◌, List, [], ◌∷◌, length, Result, Ok, Err, IsErr, inl, inr, refl, sym, subst, arith}
 use Rattle.std.specs.Prelude.{Some, Option, IfErr, IsErrAnd}
 use Rattle.serde_json.specs.Data.{Data}
-use Rattle.json_values.specs.SinkState.{SinkState}
+use Rattle.byte_streams.specs.SinkState.{SinkState}
 use Rattle.json_tables.specs.Outcomes.{Refuses}
 use Rattle.json_tables.specs.declared.error.ReadError.{ReadError}
 use Rattle.json_tables.specs.declared.error.ReadError.TheVariants as read
-use Rattle.pull_edge.specs.Source.{SourceState}
-use Rattle.live_frames.specs.Frame.{IsFrame}
-use Rattle.live_frames.specs.Reading.{ReadsFrame}
-use Rattle.live_frames.specs.declared.frame.Frame.{Frame}
-use Rattle.live_frames.specs.declared.reading.FrameError.{FrameError}
-use Rattle.live_frames.specs.declared.reading.FrameError.TheVariants.{WantOfMemory}
+use Rattle.byte_streams.specs.Source.{SourceState}
+use Rattle.live_link.specs.Frame.{IsFrame}
+use Rattle.live_link.specs.Reading.{ReadsFrame}
+use Rattle.live_link.specs.declared.frame.Frame.{Frame}
+use Rattle.live_link.specs.declared.reading.FrameError.{FrameError}
+use Rattle.live_link.specs.declared.reading.FrameError.TheVariants.{WantOfMemory}
 use Rattle.live_host.specs.HostErrors.{HostCause, IsBroken, host_error}
 use Rattle.live_host.specs.Questions.{verified_of, answer_of}
 use Rattle.live_host.specs.declared.streams.HostError.{HostError}

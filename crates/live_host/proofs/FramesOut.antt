@@ -1,7 +1,7 @@
 -- Frames that are sent, one after another.
 use Rattle.std.proofs.Common.{◌≡◌, ℕ, Bool, List, [], ◌∷◌, ◌++◌, length, suc, ◌≤◌, append_assoc, refl, subst, sym, codes, arith}
-use Rattle.json_values.specs.SinkState.{SinkState, Adds}
-use Rattle.json_values.proofs.Sinks.{adds_more}
+use Rattle.byte_streams.specs.SinkState.{SinkState, Adds}
+use Rattle.byte_streams.proofs.Sinks.{adds_more}
 use Rattle.oci_manifests.specs.declared.blob.ImageLayer.{ImageLayer}
 use Rattle.oci_descriptors.specs.declared.descriptor.OciDescriptor.{OciDescriptor}
 use Rattle.cosign_chain.specs.declared.image.VerifiedImage.{VerifiedImage}

@@ -2,8 +2,8 @@
 use Rattle.std.specs.Prelude.{ℕ, List, Bool, false, ◌&&◌, bytes_eq, is_some, Option, Some, None}
 use Rattle.std.specs.List.{list_any, find}
 use Rattle.std.specs.Ordering.{int_eq}
-use Rattle.cosign_layers.specs.declared.certificate.Evidence.{Evidence}
-use Rattle.cosign_layers.specs.declared.certificate.Vouched.{Vouched}
+use Rattle.cosign_parts.specs.declared.certificate.Evidence.{Evidence}
+use Rattle.cosign_parts.specs.declared.certificate.Vouched.{Vouched}
 use Rattle.live_host.specs.declared.answers.HostAnswer.{HostAnswer}
 use Rattle.live_host.specs.declared.answers.HostAnswer.TheVariants.{Signature, Certificate}
 use Rattle.live_host.specs.declared.answers.Answers.{Answers}

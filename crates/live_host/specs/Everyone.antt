@@ -2,9 +2,9 @@
 use Rattle.std.specs.Prelude.{ℕ, List, [], Bool, true, Option, Some, None}
 use Rattle.std.specs.FinMap.{FinMap}
 use Rattle.json_values.specs.Places.{by_bytes}
-use Rattle.cosign_layers.specs.Trust.{Trust, trust}
-use Rattle.cosign_layers.specs.declared.certificate.Evidence.{Evidence}
-use Rattle.cosign_layers.specs.declared.certificate.Vouched.{Vouched}
+use Rattle.cosign_parts.specs.Trust.{Trust, trust}
+use Rattle.cosign_parts.specs.declared.certificate.Evidence.{Evidence}
+use Rattle.cosign_parts.specs.declared.certificate.Vouched.{Vouched}
 
 abbrev pub all_valid : List ℕ → List ℕ → List ℕ → Bool
 all_valid key message signature = true

@@ -5,7 +5,7 @@ use Rattle.json_tables.specs.Bytes.{base64_of}
 use Rattle.json_tables.specs.Reading.{◌>>=◌, bool_of, text_of}
 use Rattle.json_tables.specs.Objects.{only}
 use Rattle.json_tables.specs.Member.{required, optional}
-use Rattle.cosign_layers.specs.declared.certificate.Vouched.{Vouched}
+use Rattle.cosign_parts.specs.declared.certificate.Vouched.{Vouched}
 use Rattle.live_host.specs.Heads.{verify_head, judge_head}
 use Rattle.live_host.specs.Names.{frame_named}
 use Rattle.live_host.specs.Wire.{Wire, SendsAndReceives}

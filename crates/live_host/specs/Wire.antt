@@ -1,14 +1,14 @@
 -- The connection between the program and its host: the bytes that are received, and those that are sent.
 use Rattle.std.specs.Prelude.{◌≡◌, ℕ, List, [], Option, Some}
 use Rattle.serde_json.specs.Data.{Data}
-use Rattle.json_values.specs.SinkState.{SinkState, Adds}
-use Rattle.pull_edge.specs.Source.{SourceState, Takes}
+use Rattle.byte_streams.specs.SinkState.{SinkState, Adds}
+use Rattle.byte_streams.specs.Source.{SourceState, Takes}
 use Rattle.live_host.specs.declared.streams.Streams.{Streams}
-use Rattle.live_frames.specs.Frame.{IsFrame}
-use Rattle.live_frames.specs.Writing.{frame_text}
-use Rattle.live_frames.specs.Reading.{Stops}
-use Rattle.live_frames.specs.declared.reading.FrameError.{FrameError}
-use Rattle.live_frames.specs.declared.reading.FrameError.TheVariants.{WantOfMemory}
+use Rattle.live_link.specs.Frame.{IsFrame}
+use Rattle.live_link.specs.Writing.{frame_text}
+use Rattle.live_link.specs.Reading.{Stops}
+use Rattle.live_link.specs.declared.reading.FrameError.{FrameError}
+use Rattle.live_link.specs.declared.reading.FrameError.TheVariants.{WantOfMemory}
 
 pub record Wire : Type 0 where
   pub source : SourceState

@@ -3,7 +3,7 @@ ghost use Rattle.std.specs.Prelude.{◌≡◌, Some, IfOk, option_map};
 ghost use Rattle.std.specs.List.{list_any, find};
 ghost use Rattle.live_host.specs.Answers.{calls_valid, is_valid_by, vouches, is_vouched_by, vouched_in};
 
-use cosign_layers::{Evidence, Offline, SignatureVerifier, Vouched};
+use cosign_parts::{Evidence, Offline, SignatureVerifier, Vouched};
 use json_values::{Blob, Copied, List};
 use std::alloc::{AllocError, Global};
 

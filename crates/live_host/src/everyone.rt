@@ -1,6 +1,6 @@
 // The trust of a search without questions.
 
-use cosign_layers::{Evidence, Offline, SignatureVerifier, Vouched};
+use cosign_parts::{Evidence, Offline, SignatureVerifier, Vouched};
 use json_values::Blob;
 use std::alloc::{AllocError, Global};
 

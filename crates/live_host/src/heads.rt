@@ -6,9 +6,9 @@ ghost use Rattle.live_host.specs.Heads.{base64_text, begin_head, verify_head, ju
 ghost use Rattle.live_host.specs.Heads.{item_head, pulled_head, refused_head};
 
 use base64::engine::general_purpose::STANDARD;
-use cosign_layers::Evidence;
+use cosign_parts::Evidence;
+use json_tables::object;
 use json_values::{Blob, Json, Text};
-use json_writing::object;
 use serde_json::Value;
 use std::alloc::{AllocError, Global};
 

@@ -8,9 +8,8 @@ ghost use Rattle.live_host.specs.Items.{config_sent, blobs_sent};
 use crate::heads::pulled_head;
 use crate::items::{give, give_document, give_layers};
 use crate::streams::{HostError, Streams, tell};
+use byte_streams::{Sink, Source};
 use cosign_chain::VerifiedImage;
-use json_values::Sink;
-use pull_edge::Source;
 use std::alloc::Global;
 
 const INDEX_TYPE: &str = "application/vnd.oci.image.index.v1+json";

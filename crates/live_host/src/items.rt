@@ -8,10 +8,10 @@ ghost use Rattle.live_host.specs.Items.{WereTold, media_type_of, layers_sent, co
 use crate::heads::item_head;
 use crate::media_type::media_type_of;
 use crate::streams::{HostError, Streams, tell};
-use json_values::{Blob, Sink, Text};
+use byte_streams::{Sink, Source};
+use json_values::{Blob, Text};
 use oci_descriptors::OciDescriptor;
 use oci_manifests::ImageLayer;
-use pull_edge::Source;
 use std::alloc::Global;
 
 /// Sends bytes of an image under their digest.

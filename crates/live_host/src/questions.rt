@@ -2,7 +2,7 @@
 ghost use Rattle.std.specs.Prelude.{◌≡◌, IfOk, IfErr, OnOk, length, []};
 ghost use Rattle.serde_json.specs.View.{view};
 ghost use Rattle.json_tables.specs.Outcomes.{ReadsTo};
-ghost use Rattle.cosign_layers.specs.LogEntry.{log_text};
+ghost use Rattle.cosign_parts.specs.LogEntry.{log_text};
 ghost use Rattle.live_host.specs.Heads.{verify_head, judge_head};
 ghost use Rattle.live_host.specs.Questions.{verified_of, vouched_of, answer_of, AsksMore, WereAsked};
 ghost use Rattle.live_host.specs.HostErrors.{HostCause};
@@ -12,12 +12,12 @@ use crate::answers::{Answers, CertificateAnswer, HostAnswer, SignatureAnswer};
 use crate::heads::{judge_head, verify_head};
 use crate::names::is_frame;
 use crate::streams::{HostError, Streams, hear, tell};
-use cosign_layers::{
+use byte_streams::{Sink, Source};
+use cosign_parts::{
     Evidence, LogEntryBundle, LogKeys, SignatureLayer, Vouched, log_text, signed_text,
 };
 use json_tables::{ReadError, decode_base64, only, optional, required, required_base64};
-use json_values::{Blob, Copied, List, Sink, Text};
-use pull_edge::Source;
+use json_values::{Blob, Copied, List, Text};
 use serde_json::Value;
 use std::alloc::{AllocError, Global};
 

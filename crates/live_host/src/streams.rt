@@ -2,15 +2,15 @@
 ghost use Rattle.std.specs.Prelude.{◌≡◌, false, IfOk, IfErr, OnOk, IsErrOf};
 ghost use Rattle.serde_json.specs.Written.{has_float};
 ghost use Rattle.json_values.specs.Counts.{Increased};
-ghost use Rattle.json_values.specs.SinkState.{Adds};
-ghost use Rattle.live_frames.specs.Writing.{frame_text};
+ghost use Rattle.byte_streams.specs.SinkState.{Adds};
+ghost use Rattle.live_link.specs.Writing.{frame_text};
 ghost use Rattle.live_host.specs.HostErrors.{HostCause};
 ghost use Rattle.live_host.specs.Wire.{wire, ReceivesFrame, SendsFrame};
 
+use byte_streams::{Sink, SinkError, Source, put_all};
 use json_tables::ReadError;
-use json_values::{Copied, Json, Sink, SinkError, put_all};
-use live_frames::{FrameError, read_frame, write_frame};
-use pull_edge::Source;
+use json_values::{Copied, Json};
+use live_link::{FrameError, read_frame, write_frame};
 use std::alloc::{AllocError, AllocFailed, Global};
 use thiserror::Error;
 

@@ -3,8 +3,8 @@ use Rattle.std.proofs.Common.{◌≡◌, ℕ, true, List, [], ◌∷◌, ◌++�
 use Rattle.std.specs.Prelude.{unwrap_or, Result, Ok, Err}
 use Rattle.std.specs.Io.KnownBytes.{Consumes}
 use Rattle.std.proofs.lemmas.List.Elements.{All-nil}
-use Rattle.json_values.specs.SinkState.{SinkState, Adds}
-use Rattle.pull_edge.specs.Source.{SourceState, Takes}
+use Rattle.byte_streams.specs.SinkState.{SinkState, Adds}
+use Rattle.byte_streams.specs.Source.{SourceState, Takes}
 use Rattle.oci_transport.specs.declared.message.AnswerHead.{AnswerHead}
 use Rattle.oci_transport.specs.declared.message.Exchange.{Exchange}
 use Rattle.oci_transport.specs.declared.message.Request.{Request}

@@ -1,8 +1,8 @@
 -- The laws of a transport, from the outcome of a request.
 use Rattle.std.proofs.Common.{◌≡◌, ℕ, true, false, List, [], ◌∷◌, ◌++◌, Option, Some, None, refl, sym, ap, ◌∙◌, append-nil}
 use Rattle.std.specs.Prelude.{is_some, Result, Ok, Err}
-use Rattle.json_values.specs.SinkState.{SinkState}
-use Rattle.pull_edge.specs.Source.{SourceState}
+use Rattle.byte_streams.specs.SinkState.{SinkState}
+use Rattle.byte_streams.specs.Source.{SourceState}
 use Rattle.http_server.specs.declared.log.Log.{Log}
 use Rattle.oci_transport.specs.Link.{Link, Answers, AddsUnanswered, AddsAtMost, answer_of, exchange_of}
 use Rattle.oci_transport.specs.declared.message.AnswerHead.{AnswerHead}

@@ -1,3 +1,4 @@
+pub mod FrameParts
 pub mod HeaderSteps
 pub mod HeaderTexts
 pub mod Kept
@@ -7,4 +8,5 @@ pub mod Plain
 pub mod Shown
 pub mod Steps
 pub mod StreamEnds
+pub mod TakenBytes
 pub mod Turns

@@ -6,8 +6,8 @@ use Rattle.std.proofs.lemmas.Bool.Decides.{nat_tests}
 use Rattle.serde_json.specs.Data.{Data}
 use Rattle.json_tables.specs.Reading.{◌>>=◌}
 use Rattle.oci_transport.specs.declared.message.AnswerHead.{AnswerHead}
-use Rattle.live_frames.specs.Frame.{IsFrame, is_line, is_inside, most_bytes, head_of, size_of, kind_of}
-use Rattle.live_frames.specs.declared.frame.Frame.{Frame}
+use Rattle.live_link.specs.Frame.{IsFrame, is_line, is_inside, most_bytes, head_of, size_of, kind_of}
+use Rattle.live_link.specs.declared.frame.Frame.{Frame}
 use Rattle.live_link.specs.Heads.{answer_head_of}
 use Rattle.live_link.specs.Replies.{reply_of, reply_by, plain_reply, answer_reply}
 use Rattle.live_link.specs.Bodies.{with_first, line_in, sized_in, headed_in, frame_in, piece_by, piece_in, and_those, pieces_in, body_in}

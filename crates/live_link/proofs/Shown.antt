@@ -5,8 +5,8 @@ use Rattle.std.specs.Coded.{Coded-set, coded_bool}
 use Rattle.std.specs.Io.KnownBytes.{Consumes}
 use Rattle.std.proofs.Math.Logic.{∥∥₁_elim}
 use Rattle.std.proofs.lemmas.Grind.{flat_map-append}
-use Rattle.json_values.specs.SinkState.{SinkState}
-use Rattle.pull_edge.specs.Source.{SourceState}
+use Rattle.byte_streams.specs.SinkState.{SinkState}
+use Rattle.byte_streams.specs.Source.{SourceState}
 use Rattle.http_server.specs.declared.log.Log.{Log}
 use Rattle.oci_transport.specs.Link.{Link, Answering, Extends, Steady}
 use Rattle.oci_transport.specs.declared.message.Exchange.{Exchange}

@@ -1,8 +1,8 @@
 -- What is known of the streams after each step of a transport.
 use Rattle.std.proofs.Common.{◌≡◌, ℕ, List, [], ◌∷◌, ◌++◌, Option, sym, subst}
 use Rattle.std.proofs.Math.Logic.{∥∥₁_map}
-use Rattle.json_values.specs.SinkState.{SinkState}
-use Rattle.pull_edge.specs.Source.{SourceState}
+use Rattle.byte_streams.specs.SinkState.{SinkState}
+use Rattle.byte_streams.specs.Source.{SourceState}
 use Rattle.http_server.specs.declared.log.Log.{Log}
 use Rattle.oci_transport.specs.declared.message.AnswerHead.{AnswerHead}
 use Rattle.oci_transport.specs.declared.message.Exchange.{Exchange}

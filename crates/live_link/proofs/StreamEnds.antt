@@ -1,8 +1,8 @@
 -- The beginning and the end of a transport.
 use Rattle.std.proofs.Common.{◌≡◌, ℕ, List, [], ◌∷◌, Option, Some, None, refl, sym, ap, subst, ◌∙◌, append-nil}
 use Rattle.std.proofs.Math.Logic.{∥∥₁_map}
-use Rattle.json_values.specs.SinkState.{SinkState}
-use Rattle.pull_edge.specs.Source.{SourceState}
+use Rattle.byte_streams.specs.SinkState.{SinkState}
+use Rattle.byte_streams.specs.Source.{SourceState}
 use Rattle.oci_transport.specs.declared.message.Exchange.{Exchange}
 use Rattle.oci_transport.specs.declared.message.Answer.{Answer}
 use Rattle.live_link.specs.State.{opening, told_from, told_since, breach_in, Held, HeldAt, Holds}

@@ -1,7 +1,7 @@
 -- One question to the host: a frame is sent, and a frame is received.
 use Rattle.std.specs.Prelude.{◌≡◌, ℕ, List, [], Option, Some, None, Result, Ok, Err}
-use Rattle.json_values.specs.SinkState.{SinkState, Adds}
-use Rattle.pull_edge.specs.Source.{SourceState, Takes}
+use Rattle.byte_streams.specs.SinkState.{SinkState, Adds}
+use Rattle.byte_streams.specs.Source.{SourceState, Takes}
 use Rattle.oci_transport.specs.declared.message.Request.{Request}
 use Rattle.oci_transport.specs.declared.message.AnswerHead.{AnswerHead}
 use Rattle.live_link.specs.Requests.{request_text, more_text}

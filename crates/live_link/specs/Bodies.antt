@@ -3,8 +3,8 @@ use Rattle.std.specs.Prelude.{ℕ, zero, suc, ◌&&◌, nat_le, List, [], ◌∷
 use Rattle.std.specs.Prelude.{if◌then◌else◌}
 use Rattle.json_tables.specs.Reading.{◌>>=◌}
 use Rattle.serde_json.specs.Data.{Data}
-use Rattle.live_frames.specs.Frame.{most_bytes, is_inside, head_of, size_of}
-use Rattle.live_frames.specs.declared.frame.Frame.{Frame}
+use Rattle.live_link.specs.Frame.{most_bytes, is_inside, head_of, size_of}
+use Rattle.live_link.specs.declared.frame.Frame.{Frame}
 use Rattle.live_link.specs.Replies.{reply_of}
 use Rattle.live_link.specs.declared.replies.Reply.{Reply}
 use Rattle.live_link.specs.declared.replies.Reply.TheVariants.{Answer, Piece, End, Failed, Other}

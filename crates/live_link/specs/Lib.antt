@@ -1,8 +1,13 @@
 pub mod Asking
 pub mod Bodies
+pub mod Constants
+pub mod Frame
 pub mod Heads
+pub mod Parts
+pub mod Reading
 pub mod Replies
 pub mod Requests
 pub mod Shown
-pub mod Transcript
 pub mod State
+pub mod Transcript
+pub mod Writing

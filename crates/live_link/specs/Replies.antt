@@ -3,8 +3,8 @@ use Rattle.std.specs.Prelude.{ℕ, List, [], ◌∷◌, Option, Some, None, code
 use Rattle.std.specs.Str.{bytes_eq}
 use Rattle.serde_json.specs.Data.{Data}
 use Rattle.oci_transport.specs.declared.message.AnswerHead.{AnswerHead}
-use Rattle.live_frames.specs.Frame.{kind_of}
-use Rattle.live_frames.specs.declared.frame.Frame.{Frame}
+use Rattle.live_link.specs.Frame.{kind_of}
+use Rattle.live_link.specs.declared.frame.Frame.{Frame}
 use Rattle.live_link.specs.Heads.{answer_head_of}
 use Rattle.live_link.specs.declared.replies.Reply.{Reply}
 use Rattle.live_link.specs.declared.replies.Reply.TheVariants.{Answer, Piece, End, Failed, Other}

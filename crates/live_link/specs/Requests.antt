@@ -6,12 +6,12 @@ use Rattle.base64.specs.Engines.{standard}
 use Rattle.base64.specs.GeneralPurpose.{encode_of}
 use Rattle.serde_json.specs.Data.{Data, string, array, item, no_items}
 use Rattle.serde_json.specs.View.{items_of}
-use Rattle.json_writing.specs.Fields.{fields}
+use Rattle.json_tables.specs.Fields.{fields}
 use Rattle.oci_transport.specs.Headers.{Fields, values_of, is_text}
 use Rattle.oci_transport.specs.declared.message.Method.{Method}
 use Rattle.oci_transport.specs.declared.message.Method.TheVariants.{Get, Head, Post, Put, Patch}
 use Rattle.oci_transport.specs.declared.message.Request.{Request}
-use Rattle.live_frames.specs.Writing.{frame_text}
+use Rattle.live_link.specs.Writing.{frame_text}
 
 abbrev pub method_name : Method → List ℕ
 method_name Get = codes "GET"

@@ -1,7 +1,7 @@
 -- What a transport over a source and a sink exposes.
 use Rattle.std.specs.Prelude.{List, Option, None}
-use Rattle.pull_edge.specs.declared.source.Source as source
-use Rattle.json_values.specs.declared.sink.Sink as sink
+use Rattle.byte_streams.specs.declared.source.Source as source
+use Rattle.byte_streams.specs.declared.sink.Sink as sink
 use Rattle.oci_transport.specs.Link.{Link}
 use Rattle.oci_transport.specs.declared.message.Exchange.{Exchange}
 use Rattle.live_link.specs.State.{told_since, rest_in, breach_in, exchanges_by}

@@ -3,8 +3,8 @@ use Rattle.std.specs.Prelude.{◌≡◌, ℕ, Bool, true, false, List, [], ◌�
 use Rattle.std.specs.Prelude.{unwrap_or, is_some}
 use Rattle.std.specs.FinMap.{empty}
 use Rattle.std.specs.List.{flat_map}
-use Rattle.json_values.specs.SinkState.{SinkState}
-use Rattle.pull_edge.specs.Source.{SourceState}
+use Rattle.byte_streams.specs.SinkState.{SinkState}
+use Rattle.byte_streams.specs.Source.{SourceState}
 use Rattle.oci_transport.specs.Link.{answer_of}
 use Rattle.oci_transport.specs.declared.message.Method.TheVariants.{Get}
 use Rattle.oci_transport.specs.declared.message.Request.{Request}

@@ -5,8 +5,8 @@ use Rattle.oci_transport.specs.declared.message.Request.{Request}
 use Rattle.oci_transport.specs.declared.message.Answer.{Answer}
 use Rattle.oci_transport.specs.declared.message.Exchange.{Exchange}
 use Rattle.oci_transport.specs.declared.message.AnswerHead.{AnswerHead}
-use Rattle.live_frames.specs.Frame.{IsFrame, most_bytes}
-use Rattle.live_frames.specs.declared.frame.Frame.{Frame}
+use Rattle.live_link.specs.Frame.{IsFrame, most_bytes}
+use Rattle.live_link.specs.declared.frame.Frame.{Frame}
 use Rattle.live_link.specs.Requests.{request_text, more_text}
 use Rattle.live_link.specs.Replies.{reply_of}
 use Rattle.live_link.specs.Bodies.{body_in}

@@ -1,17 +1,18 @@
 // One question to the host: a frame is sent, and a frame is received.
 ghost use Rattle.std.specs.Prelude.{◌≡◌, [], false, is_some};
 ghost use Rattle.serde_json.specs.Written.{has_float};
-ghost use Rattle.live_frames.specs.Writing.{frame_text};
+ghost use Rattle.live_link.specs.Writing.{frame_text};
 ghost use Rattle.live_link.specs.Asking.{Asks, Sends, PieceReply, unsent, head_after, piece_after};
 ghost use Rattle.live_link.specs.State.{breach_in};
 ghost use Rattle.live_link.specs.Requests.{request_data, more_data};
 
+use crate::reading::{MOST_BYTES, read_frame};
 use crate::replies::{Reply, read_reply};
 use crate::stage::{Breach, Stage};
-use json_values::{Blob, Json, Sink};
-use live_frames::{MOST_BYTES, read_frame, write_frame};
+use crate::writing::write_frame;
+use byte_streams::{Sink, Source};
+use json_values::{Blob, Json};
 use oci_transport::{AnswerHead, Request};
-use pull_edge::Source;
 use std::alloc::Global;
 
 // Sends a frame with no bytes after its line, and reads a reply.

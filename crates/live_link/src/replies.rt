@@ -7,9 +7,9 @@ ghost use Rattle.json_tables.specs.Member.{required};
 ghost use Rattle.live_link.specs.Heads.{answer_head_of, status_of, headers_of, with_headers, Adds};
 ghost use Rattle.live_link.specs.Replies.{reply_of, piece_reply, plain_reply, answer_reply};
 
+use crate::frame::Frame;
 use json_tables::{ReadError, Reads, only, required};
 use json_values::{Blob, List, Text};
-use live_frames::Frame;
 use oci_transport::{AnswerHead, HeaderError, Headers};
 use serde_json::Value;
 use std::alloc::{AllocError, Global};

@@ -7,8 +7,8 @@ ghost use Rattle.live_link.specs.Requests.{request_data, more_data, method_name,
 ghost use Rattle.live_link.specs.Requests.{values_data, headers_data};
 
 use base64::engine::general_purpose::STANDARD;
+use json_tables::object;
 use json_values::{Json, Text};
-use json_writing::object;
 use oci_transport::{Headers, Method, Request, header_text};
 use serde_json::Value;
 use std::alloc::{AllocError, Global};

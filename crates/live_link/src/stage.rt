@@ -1,6 +1,7 @@
 // What a transport knows of its streams.
-use json_values::{Copied, SinkError};
-use live_frames::FrameError;
+use crate::reading::FrameError;
+use byte_streams::SinkError;
+use json_values::Copied;
 use oci_transport::AnswerHead;
 use std::alloc::{AllocError, Global};
 

@@ -4,10 +4,10 @@ ghost use Rattle.live_link.specs.State.{Holds, exchanges_by};
 use crate::asking::{ask_piece, ask_request};
 use crate::requests::{more_object, request_object};
 use crate::stage::{Breach, Heard, Stage};
+use byte_streams::{Sink, Source};
 use http_server::Log;
-use json_values::{Blob, Sink};
+use json_values::Blob;
 use oci_transport::{AnswerHead, LinkError, Request, Transport};
-use pull_edge::Source;
 use std::alloc::Global;
 
 /// Sends requests as frames to a sink, and reads their responses as frames from a source: the owner of the other ends

@@ -1,9 +1,9 @@
 // A transport over what a host has written.
 use crate::frames::source;
-use json_values::{Blob, List, MemorySink, Text};
+use byte_streams::{MemorySink, MemorySource};
+use json_values::{Blob, List, Text};
 use live_link::{Breach, StreamTransport};
 use oci_transport::{AnswerHead, Headers, LinkError, Method, Request, Transport, read_body};
-use pull_edge::MemorySource;
 use std::alloc::{AllocError, Global};
 
 type Memory = StreamTransport<MemorySource, MemorySink>;

@@ -1,7 +1,7 @@
 // Frames that are whole, truncated, too long, and malformed.
+use byte_streams::MemorySource;
 use json_values::{Blob, List};
-use live_frames::{Frame, FrameError, read_frame};
-use pull_edge::MemorySource;
+use live_link::{Frame, FrameError, read_frame};
 use std::alloc::{AllocError, Global};
 
 const THREE: &[u8] = b"{\"bytes\":3}\nabc";

@@ -3,9 +3,9 @@ use oci_digests::{
     Algorithm, Digest, DigestError, Digester, digest_header_value, digest_text, names_digest,
     sha256_digest, validate_digest,
 };
+use recorded_answers::holds;
 use std::alloc::{AllocError, Global};
 use std::cmp::Ordering;
-use test_answers::holds;
 
 // The digests of `abc` in FIPS 180-4's examples.
 const ABC_256: &str = "sha256:ba7816bf8f01cfea414140de5dae2223b00361a396177a9cb410ff61f20015ad";

@@ -1,8 +1,8 @@
 // References and platforms.
 use json_values::{Copied, Text};
 use oci_names::{Arch, Os, ParseError, Reference};
+use recorded_answers::holds;
 use std::alloc::{AllocError, Global};
-use test_answers::holds;
 
 const DIGEST: &str = "sha256:b94d27b9934d3e08a52e52d7da7dabfac484efe37a5380ee9088f7ace2efcde9";
 

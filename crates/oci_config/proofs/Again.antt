@@ -9,12 +9,12 @@ use Rattle.json_tables.specs.Member.{present, unless_null}
 use Rattle.json_tables.specs.Outcomes.{Refuses}
 use Rattle.json_tables.specs.declared.error.ReadError.{ReadError}
 use Rattle.json_tables.specs.declared.error.ReadError.TheVariants.{Float, Shape, Ambiguous, WantOfMemory}
-use Rattle.json_writing.specs.Again.{ReadsAgain, MemberReadsAgain}
-use Rattle.json_writing.proofs.Members.{among, or_else-none, get-fields, fields_plain}
+use Rattle.json_tables.specs.Again.{ReadsAgain, MemberReadsAgain}
+use Rattle.json_tables.proofs.Members.{among, or_else-none, get-fields, fields_plain}
 use Rattle.oci_config.specs.declared.config.Config.{Config}
 use Rattle.oci_config.specs.declared.rootfs.Rootfs.{Rootfs}
-use Rattle.oci_times.specs.Reader.{time_of}
-use Rattle.oci_times.specs.Writer.{time_written}
+use Rattle.oci_config.specs.Reader.{time_of}
+use Rattle.oci_config.specs.Writer.{time_written}
 use Rattle.oci_config.specs.declared.history.History.{History}
 use Rattle.oci_config.specs.declared.file.ConfigFile.{ConfigFile}
 use Rattle.oci_config.specs.History.{history_of, history_members, history_fields, history_written}

@@ -4,7 +4,7 @@ use Rattle.std.specs.List.{list_any}
 use Rattle.serde_json.specs.Data.{Data}
 use Rattle.json_tables.specs.Reading.{list_of}
 use Rattle.json_tables.specs.Member.{unless_null}
-use Rattle.json_writing.specs.Again.{MemberReadsAgain}
+use Rattle.json_tables.specs.Again.{MemberReadsAgain}
 
 map_same : {X : Type 0} (xs : List X) → map (λ x. x) xs ≡ xs
 map_same [] = refl

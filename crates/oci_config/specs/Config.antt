@@ -6,7 +6,7 @@ use Rattle.json_values.specs.Writing.{listed, map_written, set_written}
 use Rattle.json_tables.specs.Reading.{◌>>=◌, text_of, list_of, map_of, Map}
 use Rattle.json_tables.specs.Objects.{an_object, set_of}
 use Rattle.json_tables.specs.Member.{optional}
-use Rattle.json_writing.specs.Fields.{Field, fields, no_entries, unless_empty}
+use Rattle.json_tables.specs.Fields.{Field, fields, no_entries, unless_empty}
 use Rattle.oci_config.specs.declared.config.Config.{Config}
 
 unfoldable pub config_members : Data → Option Config

@@ -5,8 +5,8 @@ use Rattle.std.specs.Str.{bytes_eq}
 use Rattle.std.specs.Bool.{beq}
 use Rattle.std.specs.Cmp.{IsEquivalence, and_equiv, on_equiv, bool_eq_equiv}
 use Rattle.std.specs.Cmp.Lexicographic.{pointwise, nat_list_eq_equiv, options_equiv, lists_equiv}
-use Rattle.oci_times.specs.Moment.{is_same}
-use Rattle.oci_times.specs.Equalities.{moments}
+use Rattle.oci_config.specs.Moment.{is_same}
+use Rattle.oci_config.specs.TimeEqualities.{moments}
 use Rattle.oci_config.specs.declared.history.History.{History}
 use Rattle.oci_config.specs.declared.rootfs.Rootfs.{Rootfs}
 

@@ -4,9 +4,9 @@ use Rattle.serde_json.specs.Data.{Data, string}
 use Rattle.json_values.specs.Writing.{listed}
 use Rattle.json_tables.specs.Reading.{◌>>=◌, text_of, list_of}
 use Rattle.json_tables.specs.Member.{required, optional}
-use Rattle.json_writing.specs.Fields.{Field, fields}
-use Rattle.oci_times.specs.Reader.{time_of}
-use Rattle.oci_times.specs.Writer.{time_written}
+use Rattle.json_tables.specs.Fields.{Field, fields}
+use Rattle.oci_config.specs.Reader.{time_of}
+use Rattle.oci_config.specs.Writer.{time_written}
 use Rattle.oci_config.specs.declared.file.ConfigFile.{ConfigFile}
 use Rattle.oci_config.specs.Config.{config_of, config_written, normal_config, some_list}
 use Rattle.oci_config.specs.History.{history_of, history_written}

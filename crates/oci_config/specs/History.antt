@@ -4,9 +4,9 @@ use Rattle.serde_json.specs.Data.{Data, string, boolean}
 use Rattle.json_tables.specs.Reading.{◌>>=◌, text_of, bool_of}
 use Rattle.json_tables.specs.Objects.{an_object}
 use Rattle.json_tables.specs.Member.{optional}
-use Rattle.json_writing.specs.Fields.{Field, fields}
-use Rattle.oci_times.specs.Reader.{time_of}
-use Rattle.oci_times.specs.Writer.{time_written}
+use Rattle.json_tables.specs.Fields.{Field, fields}
+use Rattle.oci_config.specs.Reader.{time_of}
+use Rattle.oci_config.specs.Writer.{time_written}
 use Rattle.oci_config.specs.declared.history.History.{History}
 
 unfoldable pub history_members : Data → Option History

@@ -1,6 +1,14 @@
 pub mod Config
 pub mod Conversion
+pub mod Digits
 pub mod Equalities
 pub mod File
 pub mod History
+pub mod Instant
+pub mod Moment
+pub mod Offset
+pub mod Reader
 pub mod Rootfs
+pub mod Shift
+pub mod TimeEqualities
+pub mod Writer

@@ -4,7 +4,7 @@ use Rattle.serde_json.specs.Data.{Data, string}
 use Rattle.json_values.specs.Writing.{listed}
 use Rattle.json_tables.specs.Reading.{◌>>=◌, text_of, list_of}
 use Rattle.json_tables.specs.Member.{required}
-use Rattle.json_writing.specs.Fields.{Field, fields}
+use Rattle.json_tables.specs.Fields.{Field, fields}
 use Rattle.oci_config.specs.declared.rootfs.Rootfs.{Rootfs}
 
 unfoldable pub rootfs_of : Data → Option Rootfs

@@ -4,9 +4,10 @@ ghost use Rattle.serde_json.specs.View.{view};
 ghost use Rattle.json_tables.specs.Outcomes.{ReadsTo, ReadsDocument};
 ghost use Rattle.oci_config.specs.Config.{config_members};
 
-use json_tables::{ReadError, Reads, an_object, read_document, read_row};
+use json_tables::{
+    ReadError, Reads, UnlessEmpty, Writes, an_object, object, read_document, read_row,
+};
 use json_values::{Annotations, Copied, List, Text, TextSet, ToValue, copied, row};
-use json_writing::{UnlessEmpty, Writes, object};
 use serde_json::Value;
 use std::alloc::{AllocError, Global};
 
@@ -146,7 +147,7 @@ impl ToValue for Config {
     ghost written = { config_written };
 
     /// Writes the member, omitting `None` and empty members. The result round-trips, with empty members read as `None`.
-    #[tactic(auto, using(json_writing::proofs::Whole::document_again))]
+    #[tactic(auto, using(json_tables::proofs::Whole::document_again))]
     fn to_value(&self, alloc: Global) -> Result<Value, AllocError>
         ensures exact { IfOk result (λ v. view v ≡ config_written self.now) }
         ensures reads_back { IfOk result

@@ -5,11 +5,12 @@ ghost use Rattle.json_tables.specs.Outcomes.{ReadsDocument};
 use crate::config::Config;
 use crate::history::History;
 use crate::rootfs::Rootfs;
-use json_tables::{ReadError, Reads, read_document, read_row};
+use crate::time::Time;
+use json_tables::{
+    ReadError, Reads, Required, UnlessEmpty, Writes, object, read_document, read_row,
+};
 use json_values::{Copied, List, Text, ToValue, copied, row};
-use json_writing::{Required, UnlessEmpty, Writes, object};
 use oci_names::{Arch, Os};
-use oci_times::Time;
 use serde_json::Value;
 use std::alloc::{AllocError, Global};
 
@@ -104,7 +105,7 @@ impl ToValue for ConfigFile {
 
     /// Writes the file, omitting `None`, an empty history, and empty members of `config`. The result round-trips, with
     /// empty members read as `None`.
-    #[tactic(auto, using(json_writing::proofs::Whole::document_again))]
+    #[tactic(auto, using(json_tables::proofs::Whole::document_again))]
     fn to_value(&self, alloc: Global) -> Result<Value, AllocError>
         ensures exact { IfOk result (λ v. view v ≡ file_written self.now) }
         ensures reads_back { IfOk result

@@ -3,10 +3,9 @@ ghost use Rattle.serde_json.specs.View.{view};
 ghost use Rattle.json_tables.specs.Outcomes.{ReadsTo, ReadsDocument};
 ghost use Rattle.oci_config.specs.History.{history_members};
 
-use json_tables::{ReadError, Reads, an_object, read_document, read_row};
+use crate::time::Time;
+use json_tables::{ReadError, Reads, Writes, an_object, object, read_document, read_row};
 use json_values::{Copied, Text, ToValue, copied, row};
-use json_writing::{Writes, object};
-use oci_times::Time;
 use serde_json::Value;
 use std::alloc::{AllocError, Global};
 
@@ -104,7 +103,7 @@ impl ToValue for History {
     ghost written = { history_written };
 
     /// Writes the step without its members that are `None`. The result round-trips.
-    #[tactic(auto, using(json_writing::proofs::Whole::document_again))]
+    #[tactic(auto, using(json_tables::proofs::Whole::document_again))]
     fn to_value(&self, alloc: Global) -> Result<Value, AllocError>
         ensures exact { IfOk result (λ v. view v ≡ history_written self.now) }
         ensures reads_back { IfOk result (λ v. ReadsDocument (Ok self.now) history_of (view v)) }

@@ -5,9 +5,8 @@ ghost use Rattle.serde_json.specs.View.{view};
 ghost use Rattle.json_tables.specs.Outcomes.{ReadsDocument};
 ghost use Rattle.oci_config.specs.declared.rootfs.TheConstants.{ROOTFS_TYPE};
 
-use json_tables::{Member, ReadError, Reads, present, read_document, read_row};
+use json_tables::{Member, ReadError, Reads, Writes, object, present, read_document, read_row};
 use json_values::{Copied, List, Text, ToValue, copied, row};
-use json_writing::{Writes, object};
 use serde_json::Value;
 use std::alloc::{AllocError, Global};
 
@@ -94,7 +93,7 @@ impl ToValue for Rootfs {
     ghost written = { rootfs_written };
 
     /// Writes the layers. The result round-trips.
-    #[tactic(auto, using(json_writing::proofs::Whole::document_again))]
+    #[tactic(auto, using(json_tables::proofs::Whole::document_again))]
     fn to_value(&self, alloc: Global) -> Result<Value, AllocError>
         ensures exact { IfOk result (λ v. view v ≡ rootfs_written self.now) }
         ensures reads_back { IfOk result (λ v. ReadsDocument (Ok self.now) rootfs_of (view v)) }

@@ -1,1 +1,2 @@
+pub mod ExactPicks
 pub mod MembersAgain

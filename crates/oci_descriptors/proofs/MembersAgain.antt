@@ -5,9 +5,9 @@ use Rattle.serde_json.specs.Find.{get, of_integer}
 use Rattle.json_values.specs.Writing.{listed, map_written}
 use Rattle.json_tables.specs.Reading.{text_of, u8_of, i64_of, list_of, map_of}
 use Rattle.json_tables.specs.Member.{present, unless_null}
-use Rattle.json_writing.specs.Fields.{fields}
-use Rattle.json_writing.specs.Again.{ReadsAgain, MemberReadsAgain}
-use Rattle.json_writing.proofs.Members.{among, or_else, or_else-none, get-fields, fields_plain}
+use Rattle.json_tables.specs.Fields.{fields}
+use Rattle.json_tables.specs.Again.{ReadsAgain, MemberReadsAgain}
+use Rattle.json_tables.proofs.Members.{among, or_else, or_else-none, get-fields, fields_plain}
 use Rattle.oci_descriptors.specs.declared.descriptor.OciDescriptor.{OciDescriptor}
 use Rattle.oci_descriptors.specs.declared.platform.Platform.{Platform}
 use Rattle.oci_descriptors.specs.declared.index_entry.ImageIndexEntry.{ImageIndexEntry}

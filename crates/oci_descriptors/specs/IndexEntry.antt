@@ -5,7 +5,7 @@ use Rattle.serde_json.specs.Find.{of_integer}
 use Rattle.json_values.specs.Writing.{map_written}
 use Rattle.json_tables.specs.Reading.{◌>>=◌, text_of, i64_of, map_of}
 use Rattle.json_tables.specs.Member.{required, optional}
-use Rattle.json_writing.specs.Fields.{Field, fields}
+use Rattle.json_tables.specs.Fields.{Field, fields}
 use Rattle.oci_descriptors.specs.declared.index_entry.ImageIndexEntry.{ImageIndexEntry}
 use Rattle.oci_descriptors.specs.Platform.{platform_of, platform_written}
 

@@ -4,3 +4,5 @@ pub mod IndexEntry
 pub mod LayerTypes
 pub mod MediaTypes
 pub mod Platform
+pub mod Promise
+pub mod Resolvers

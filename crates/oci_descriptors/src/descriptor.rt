@@ -3,9 +3,8 @@ ghost use Rattle.serde_json.specs.View.{view};
 ghost use Rattle.json_tables.specs.Outcomes.{ReadsDocument};
 
 use crate::media_types::IMAGE_CONFIG_MEDIA_TYPE;
-use json_tables::{Member, ReadError, Reads, present, read_document, read_row};
+use json_tables::{Member, ReadError, Reads, Writes, object, present, read_document, read_row};
 use json_values::{Annotations, Copied, List, Text, ToValue, copied, row};
-use json_writing::{Writes, object};
 use serde_json::Value;
 use std::alloc::{AllocError, Global};
 
@@ -118,7 +117,7 @@ impl ToValue for OciDescriptor {
     ghost written = { descriptor_written };
 
     /// Writes the descriptor without its members that are `None`. The result round-trips.
-    #[tactic(auto, using(json_writing::proofs::Whole::document_again))]
+    #[tactic(auto, using(json_tables::proofs::Whole::document_again))]
     fn to_value(&self, alloc: Global) -> Result<Value, AllocError>
         ensures exact { IfOk result (λ v. view v ≡ descriptor_written self.now) }
         ensures reads_back { IfOk result (λ v. ReadsDocument (Ok self.now) descriptor_of (view v)) }

@@ -8,6 +8,9 @@ mod index_entry;
 pub mod layer_types;
 pub mod media_types;
 mod platform;
+mod promise;
+mod resolver;
+mod resolvers;
 
 pub use annotations::{
     ORG_OPENCONTAINERS_IMAGE_AUTHORS, ORG_OPENCONTAINERS_IMAGE_BASE_DIGEST,
@@ -32,3 +35,6 @@ pub use media_types::{
     WASM_CONFIG_MEDIA_TYPE,
 };
 pub use platform::Platform;
+pub use promise::ResolverPromise;
+pub use resolver::PlatformResolver;
+pub use resolvers::{current_platform_resolver, linux_amd64_resolver, windows_amd64_resolver};

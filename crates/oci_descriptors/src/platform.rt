@@ -2,9 +2,8 @@ ghost use Rattle.std.specs.Prelude.{◌≡◌, IfOk, Ok};
 ghost use Rattle.serde_json.specs.View.{view};
 ghost use Rattle.json_tables.specs.Outcomes.{ReadsDocument};
 
-use json_tables::{Member, ReadError, Reads, present, read_document, read_row};
+use json_tables::{Member, ReadError, Reads, Writes, object, present, read_document, read_row};
 use json_values::{Copied, List, Text, ToValue, copied, row};
-use json_writing::{Writes, object};
 use oci_names::{Arch, Os};
 use serde_json::Value;
 use std::alloc::{AllocError, Global};
@@ -102,7 +101,7 @@ impl ToValue for Platform {
     ghost written = { platform_written };
 
     /// Writes the platform without its members that are `None`. The result round-trips.
-    #[tactic(auto, using(json_writing::proofs::Whole::document_again))]
+    #[tactic(auto, using(json_tables::proofs::Whole::document_again))]
     fn to_value(&self, alloc: Global) -> Result<Value, AllocError>
         ensures exact { IfOk result (λ v. view v ≡ platform_written self.now) }
         ensures reads_back { IfOk result (λ v. ReadsDocument (Ok self.now) platform_of (view v)) }

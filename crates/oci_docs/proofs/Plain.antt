@@ -3,7 +3,7 @@ use Rattle.std.proofs.Common.{◌≡◌, ℕ, List, false, ◌||◌, refl, ap, �
 use Rattle.std.proofs.lemmas.Bool.{or_parts}
 use Rattle.serde_json.specs.Data.{Data, null, boolean, number, string, array, object, Items, no_items, item, Members, no_members, member}
 use Rattle.serde_json.specs.Written.{has_float, items_have_float, members_have_float, compact_text}
-use Rattle.json_writing.proofs.Members.{put_plain}
+use Rattle.json_tables.proofs.Members.{put_plain}
 use Rattle.oci_docs.specs.Nfc.{composed_text, composed, composed_items, composed_members}
 
 mutual

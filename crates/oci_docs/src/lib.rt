@@ -13,7 +13,8 @@ mod written;
 
 pub use catalog::CatalogResponse;
 pub use oci_config::{
-    ConfigError, ConfigFile, FromConfigFile, History, ROOTFS_TYPE, Rootfs, rootfs_type_is_layers,
+    ConfigError, ConfigFile, FromConfigFile, History, ROOTFS_TYPE, Rootfs, Time,
+    rootfs_type_is_layers,
 };
 pub use oci_descriptors::{
     IMAGE_CONFIG_MEDIA_TYPE, IMAGE_DOCKER_CONFIG_MEDIA_TYPE, IMAGE_DOCKER_LAYER_GZIP_MEDIA_TYPE,
@@ -38,7 +39,6 @@ pub use oci_manifests::{
     DOCKER_DIGEST_HEADER, ImageLayer, OciImageIndex, OciImageManifest, OciManifest, ReadError,
     Versioned, blob, is_manifest_media_type,
 };
-pub use oci_times::Time;
 pub use tags::TagResponse;
 pub use written::manifest_text;
 

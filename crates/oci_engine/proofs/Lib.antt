@@ -1,6 +1,1 @@
 pub mod Constants
-pub mod StreamCalls
-pub mod StreamCauses
-pub mod StreamRanges
-pub mod StreamRefusalLaws
-pub mod StreamSafety

@@ -6,9 +6,9 @@ use Rattle.oci_auth.specs.declared.auth.RegistryAuth.{RegistryAuth}
 use Rattle.oci_auth.specs.declared.token_type.RegistryOperation.{RegistryOperation}
 use Rattle.oci_auth.specs.declared.token_type.RegistryOperation.TheVariants.{Pull}
 use Rattle.oci_protocol.specs.Runs.{Told}
-use Rattle.engine_laws.specs.Confined.{Within}
-use Rattle.engine_laws.specs.Held.{asking, pulling}
-use Rattle.engine_laws.specs.Referrers.{WithinReferrers}
+use Rattle.engine_rows.specs.Confined.{Within}
+use Rattle.engine_rows.specs.Held.{asking, pulling}
+use Rattle.engine_rows.specs.ReferrersCauses.{WithinReferrers}
 use Rattle.oci_engine.specs.declared.client.Client.{Client}
 use Rattle.oci_engine.specs.Kept.{auth_state_of}
 use Rattle.oci_engine.specs.Refusals.{at_moment}

@@ -5,9 +5,9 @@ pub mod Kept
 pub mod PushRefusals
 pub mod Refusals
 pub mod StreamRefusals
-pub use Rattle.engine_laws.specs.Answered
-pub use Rattle.engine_laws.specs.Causes
-pub use Rattle.engine_laws.specs.Confined
-pub use Rattle.engine_laws.specs.Held
-pub use Rattle.engine_laws.specs.TokenCauses
-pub use Rattle.push_laws.specs.Causes as PushCauses
+pub use Rattle.engine_rows.specs.Answered
+pub use Rattle.engine_rows.specs.Causes
+pub use Rattle.engine_rows.specs.Confined
+pub use Rattle.engine_rows.specs.Held
+pub use Rattle.engine_rows.specs.TokenCauses
+pub use Rattle.engine_push.specs.Causes as PushCauses

@@ -3,7 +3,7 @@ use Rattle.std.specs.Prelude.{ℕ, List}
 use Rattle.oci_names.specs.declared.reference.Reference.{Reference}
 use Rattle.oci_transport.specs.declared.message.Exchange.{Exchange}
 use Rattle.engine_terms.specs.declared.error.OciDistributionError.{OciDistributionError}
-use Rattle.push_laws.specs.Causes.{PushText, PushCause}
+use Rattle.engine_push.specs.Causes.{PushText, PushCause}
 use Rattle.oci_engine.specs.declared.client.Client.{Client}
 
 -- of a client's, where `Own` is what the call itself may refuse

@@ -17,10 +17,10 @@ use Rattle.engine_terms.specs.declared.error.OciDistributionError.TheVariants as
 use Rattle.engine_rows.specs.Blobs.{Destination}
 use Rattle.oci_engine.specs.declared.client.Client.{Client}
 use Rattle.oci_engine.specs.Kept.{auth_state_of}
-use Rattle.engine_laws.specs.Held.{pulling}
-use Rattle.engine_laws.specs.Referrers.{ReferrersCause}
-use Rattle.engine_laws.specs.Causes.{Cause, AnswerCause, DocumentCause, BadHeader, OwnDigest, ManifestUrl}
-use Rattle.engine_laws.specs.Causes.{BlobUrl, BlobCause, FoundCause, ConfigCause, ImageCause, IsRefusedAs}
+use Rattle.engine_rows.specs.Held.{pulling}
+use Rattle.engine_rows.specs.ReferrersCauses.{ReferrersCause}
+use Rattle.engine_rows.specs.Causes.{Cause, AnswerCause, DocumentCause, BadHeader, OwnDigest, ManifestUrl}
+use Rattle.engine_rows.specs.Causes.{BlobUrl, BlobCause, FoundCause, ConfigCause, ImageCause, IsRefusedAs}
 
 -- the exchanges exposed between two states of a transport have the cause of the refusal, if the call was refused
 abbrev pub RefusedFor : {A : Type 0} → (List Exchange → ℕ → OciDistributionError → Type 0) → Link → Link

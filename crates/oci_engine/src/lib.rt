@@ -18,15 +18,14 @@ pub use config::{
     DEFAULT_TOKEN_EXPIRATION_SECS,
 };
 pub use config_files::config_file;
-pub use engine_push::PushBlobStreamChunkedResponse;
+pub use engine_push::{MemoryPieces, PieceSource, PushBlobStreamChunkedResponse};
 pub use engine_requests::{AsLayerDescriptor, LayerDescriptor};
 pub use engine_rows::ImageData;
 pub use engine_streams::{BlobResponse, SizedStream};
 pub use engine_terms::{
     ClientProtocol, GenericCause, OciDistributionError, Settings, SpecViolation,
 };
-pub use oci_pieces::{MemoryPieces, PieceSource};
-pub use oci_platforms::{
+pub use oci_descriptors::{
     PlatformResolver, ResolverPromise, current_platform_resolver, linux_amd64_resolver,
     windows_amd64_resolver,
 };

@@ -6,7 +6,7 @@ ghost use Rattle.engine_terms.specs.Error.{is_memory};
 ghost use Rattle.engine_requests.specs.Requests.{manifest_types};
 ghost use Rattle.engine_rows.specs.Manifests.{pull_image_manifest, pull_image_manifest_and_list_digest};
 ghost use Rattle.engine_rows.specs.Manifests.{pull_manifest_and_config, pull_manifest_and_config_and_list_digest};
-ghost use Rattle.engine_laws.specs.Causes.{HasBadHeader, IsEarly};
+ghost use Rattle.engine_rows.specs.Causes.{HasBadHeader, IsEarly};
 ghost use Rattle.oci_engine.specs.Confinement.{StaysConfined};
 ghost use Rattle.oci_engine.specs.Kept.{auth_state_of};
 ghost use Rattle.oci_engine.specs.Refusals.{RefusedFor, FaultCounted, UrlRefused, at_moment};

@@ -5,18 +5,17 @@ ghost use Rattle.oci_protocol.specs.Runs.{Meets};
 ghost use Rattle.engine_terms.specs.Error.{is_memory};
 ghost use Rattle.engine_push.specs.Calls.{push_blob, push_blob_stream, push_blob_stream_chunked, mount_blob};
 ghost use Rattle.engine_push.specs.Sources.{Pushes, SourceCause};
-ghost use Rattle.push_laws.specs.Causes.{OfBytes, OfStream, OfNamedStream, OfNothing};
+ghost use Rattle.engine_push.specs.Causes.{OfBytes, OfStream, OfNamedStream, OfNothing};
 ghost use Rattle.oci_engine.specs.Confinement.{StaysFor};
 ghost use Rattle.oci_engine.specs.Kept.{auth_state_of};
 ghost use Rattle.oci_engine.specs.PushRefusals.{PushRefused};
 ghost use Rattle.oci_engine.specs.Refusals.{RefusedFor, FaultCounted, at_moment};
 
 use crate::client::{Client, lent};
-use engine_push::PushBlobStreamChunkedResponse;
+use engine_push::{PieceSource, PushBlobStreamChunkedResponse};
 use engine_terms::{Call, OciDistributionError};
 use json_values::Text;
 use oci_names::Reference;
-use oci_pieces::PieceSource;
 use oci_transport::Transport;
 use std::alloc::Global;
 

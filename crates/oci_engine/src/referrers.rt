@@ -6,7 +6,7 @@ ghost use Rattle.engine_terms.specs.Error.{is_memory};
 ghost use Rattle.engine_requests.specs.ReferrerLists.{referrers_text};
 ghost use Rattle.engine_requests.specs.Requests.{manifest_types};
 ghost use Rattle.engine_rows.specs.Referrers.{pull_referrers};
-ghost use Rattle.engine_laws.specs.Causes.{HasBadHeader, IsEarly};
+ghost use Rattle.engine_rows.specs.Causes.{HasBadHeader, IsEarly};
 ghost use Rattle.oci_engine.specs.Confinement.{StaysWithTag};
 ghost use Rattle.oci_engine.specs.Kept.{auth_state_of};
 ghost use Rattle.oci_engine.specs.Refusals.{RefusedFor, FaultCounted, UrlRefused, at_moment};

@@ -7,11 +7,12 @@ ghost use Rattle.engine_requests.specs.Requests.{manifest_types};
 ghost use Rattle.engine_streams.specs.Blobs.{blob_stream, blob_stream_partial, opening_in, response_in};
 ghost use Rattle.engine_streams.specs.Blobs.{stream_in, IsLeft};
 ghost use Rattle.engine_streams.specs.Streams.{IsOpen, opening_of};
-ghost use Rattle.engine_laws.specs.Causes.{HasBadHeader, IsEarly, IsRefusedAs};
+ghost use Rattle.engine_rows.specs.Causes.{HasBadHeader, IsEarly, IsRefusedAs};
 ghost use Rattle.oci_engine.specs.Confinement.{StaysConfined};
 ghost use Rattle.oci_engine.specs.Kept.{auth_state_of};
 ghost use Rattle.oci_engine.specs.Refusals.{RefusedFor, FaultCounted, UrlRefused, at_moment};
-ghost use Rattle.oci_engine.specs.StreamRefusals.{StreamRefused, Overflows, Fits, range_of};
+ghost use Rattle.oci_engine.specs.StreamRefusals.{StreamRefused};
+ghost use Rattle.engine_streams.specs.Causes.{Overflows, Fits, range_of};
 
 use crate::client::{Client, lent};
 use engine_requests::AsLayerDescriptor;

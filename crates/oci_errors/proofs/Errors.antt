@@ -6,8 +6,8 @@ use Rattle.serde_json.specs.Find.{get}
 use Rattle.json_values.specs.Writing.{listed}
 use Rattle.json_tables.specs.Reading.{list_of}
 use Rattle.json_tables.specs.Member.{present}
-use Rattle.json_writing.specs.Again.{ReadsAgain, MemberReadsAgain}
-use Rattle.json_writing.proofs.Members.{among, get-fields, fields_plain}
+use Rattle.json_tables.specs.Again.{ReadsAgain, MemberReadsAgain}
+use Rattle.json_tables.proofs.Members.{among, get-fields, fields_plain}
 use Rattle.oci_errors.specs.declared.error_code.OciErrorCode.{OciErrorCode}
 use Rattle.oci_errors.specs.declared.error_code.OciErrorCode.TheVariants.{BlobUnknown, BlobUploadInvalid, BlobUploadUnknown, DigestInvalid, ManifestBlobUnknown, ManifestInvalid, ManifestUnknown, ManifestUnverified, NameInvalid, NameUnknown, NotFound, SizeInvalid, TagInvalid, Unauthorized, Denied, Unsupported, Toomanyrequests, Other}
 use Rattle.oci_errors.specs.declared.envelope.OciError.{OciError}

@@ -6,7 +6,7 @@ use Rattle.serde_json.specs.Written.{has_float}
 use Rattle.json_values.specs.Writing.{listed}
 use Rattle.json_tables.specs.Reading.{◌>>=◌, text_of, list_of}
 use Rattle.json_tables.specs.Member.{required, or_null, at_name}
-use Rattle.json_writing.specs.Fields.{Field, fields}
+use Rattle.json_tables.specs.Fields.{Field, fields}
 use Rattle.oci_errors.specs.declared.envelope.OciError.{OciError}
 use Rattle.oci_errors.specs.declared.envelope.OciEnvelope.{OciEnvelope}
 use Rattle.oci_errors.specs.ErrorCode.{code_of, code_written, normal_code}

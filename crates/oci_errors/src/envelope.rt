@@ -4,9 +4,8 @@ ghost use Rattle.json_tables.specs.Outcomes.{ReadsTo, ReadsDocument};
 ghost use Rattle.oci_errors.specs.Envelope.{text_or_empty};
 
 use crate::error_code::OciErrorCode;
-use json_tables::{ReadError, Reads, or_null, read_document, required};
+use json_tables::{ReadError, Reads, Required, Writes, object, or_null, read_document, required};
 use json_values::{Copied, Json, List, Text, ToValue, copied};
-use json_writing::{Required, Writes, object};
 use serde_json::Value;
 use std::alloc::{AllocError, Global};
 
@@ -113,7 +112,7 @@ impl ToValue for OciError {
     ghost written = { error_written };
 
     /// Writes the error. If its detail contains no float, the result round-trips, with the normal form of its code.
-    #[tactic(auto, using(json_writing::proofs::Whole::document_again))]
+    #[tactic(auto, using(json_tables::proofs::Whole::document_again))]
     fn to_value(&self, alloc: Global) -> Result<Value, AllocError>
         ensures exact { IfOk result (λ v. view v ≡ error_written self.now) }
         ensures reads_back { IfOk result (λ v. detail_has_float self.now ≡ false

@@ -3,9 +3,8 @@ ghost use Rattle.serde_json.specs.View.{view};
 ghost use Rattle.json_tables.specs.Outcomes.{ReadsDocument};
 ghost use Rattle.oci_errors.specs.ErrorCode.{known_code, code_text};
 
-use json_tables::{Member, ReadError, Reads, present, read_document};
+use json_tables::{Member, ReadError, Reads, Writes, present, read_document};
 use json_values::{Copied, Text, ToValue};
-use json_writing::Writes;
 use serde_json::Value;
 use std::alloc::{AllocError, Global};
 
@@ -147,7 +146,7 @@ impl ToValue for OciErrorCode {
     ghost written = { code_written };
 
     /// Writes the code. Reading it returns the normal form: an `Other` with a text of the table becomes that code.
-    #[tactic(auto, using(json_writing::proofs::Whole::document_again))]
+    #[tactic(auto, using(json_tables::proofs::Whole::document_again))]
     fn to_value(&self, alloc: Global) -> Result<Value, AllocError>
         ensures exact { IfOk result (λ v. view v ≡ code_written self.now) }
         ensures reads_back { IfOk result (λ v. ReadsDocument (Ok (normal_code self.now)) code_of (view v)) }

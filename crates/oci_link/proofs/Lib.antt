@@ -1,7 +1,11 @@
 pub mod Fronts
+pub mod GuardKnowledge
 pub mod LinkSteps
+pub mod Lists
 pub mod PlainPathReads
 pub mod PlainSegments
 pub mod RedirectEnds
 pub mod ServedLinks
 pub mod ShelfAnswers
+pub mod Steps
+pub mod Told

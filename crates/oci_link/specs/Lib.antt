@@ -1,6 +1,9 @@
+pub mod Guard
+pub mod GuardState
 pub mod Leads
 pub mod Paths
 pub mod PlainPaths
+pub mod Rules
 pub mod Served
 pub mod State
 pub mod Table

@@ -3,23 +3,26 @@
 #![tactic(auto)]
 
 mod faulty_shelf;
+mod guarded;
 mod leads;
 mod paths;
 mod plain_paths;
+mod rules;
 mod served;
 mod shelf;
 mod shelf_transport;
 mod table;
 
 pub use faulty_shelf::FaultyShelf;
+pub use guarded::Guarded;
 pub use http_challenges::{BearerChallenge, Challenge, ChallengeError, challenges};
-pub use link_guard::{Guarded, Hosts, Rules};
 pub use oci_transport::{
     Answer, AnswerHead, BodyError, Conversation, DIGEST_HEADER, Exchange, HeaderError, Headers,
     LinkError, Method, Recorded, Request, Script, Transport, UrlError, header_text, read_body,
     redirected, registry_url, request_url, targets,
 };
 pub use plain_paths::plain_paths_read;
+pub use rules::{Hosts, Rules};
 pub use shelf::{Shelf, ShelfBlobs, ShelfDocument, ShelfDocuments};
 pub use shelf_transport::ShelfTransport;
 pub use table::answer;

@@ -5,7 +5,7 @@ use Rattle.serde_json.specs.Find.{get}
 use Rattle.json_tables.specs.Reading.{◌>>=◌, text_of, u8_of, list_of, map_of}
 use Rattle.json_tables.specs.Member.{required, optional}
 use Rattle.json_tables.specs.Outcomes.{ReadsDocument}
-use Rattle.json_writing.proofs.Members.{get-fields}
+use Rattle.json_tables.proofs.Members.{get-fields}
 use Rattle.oci_manifests.specs.declared.manifest.OciImageManifest.{OciImageManifest}
 use Rattle.oci_manifests.specs.declared.index.OciImageIndex.{OciImageIndex}
 use Rattle.oci_manifests.specs.declared.document.OciManifest.TheVariants.{Image, ImageIndex}

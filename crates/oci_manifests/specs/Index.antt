@@ -4,7 +4,7 @@ use Rattle.serde_json.specs.Data.{Data, string, number, unsigned}
 use Rattle.json_values.specs.Writing.{listed, map_written}
 use Rattle.json_tables.specs.Reading.{◌>>=◌, text_of, u8_of, list_of, map_of}
 use Rattle.json_tables.specs.Member.{required, optional}
-use Rattle.json_writing.specs.Fields.{Field, fields}
+use Rattle.json_tables.specs.Fields.{Field, fields}
 use Rattle.oci_manifests.specs.declared.index.OciImageIndex.{OciImageIndex}
 use Rattle.oci_descriptors.specs.IndexEntry.{entry_of, entry_written}
 

@@ -2,9 +2,8 @@ ghost use Rattle.std.specs.Prelude.{◌≡◌, IfOk, Ok};
 ghost use Rattle.serde_json.specs.View.{view};
 ghost use Rattle.json_tables.specs.Outcomes.{ReadsDocument};
 
-use json_tables::{ReadError, Reads, read_document, read_row};
+use json_tables::{ReadError, Reads, Required, object, read_document, read_row};
 use json_values::{Annotations, Copied, List, Text, ToValue, copied, row};
-use json_writing::{Required, object};
 use oci_descriptors::OciDescriptor;
 use serde_json::Value;
 use std::alloc::{AllocError, Global};

@@ -3,8 +3,8 @@ use Rattle.std.proofs.lemmas.List.{nil_from_length}
 use Rattle.oci_transport.specs.Link.{Link, Steady, Takes, TakesPast}
 use Rattle.oci_transport.proofs.TakenBytes.{taken_more, taken_ends, taken_past}
 use Rattle.oci_protocol.proofs.Conversations.{Steady-none}
-use Rattle.json_values.specs.SinkState.{SinkState, Adds, AddsPrefix}
-use Rattle.json_values.proofs.Sinks.{adds_none, adds_more}
+use Rattle.byte_streams.specs.SinkState.{SinkState, Adds, AddsPrefix}
+use Rattle.byte_streams.proofs.Sinks.{adds_none, adds_more}
 use Rattle.oci_digests.specs.declared.digester.Algorithm.{Algorithm}
 use Rattle.oci_digests.specs.declared.both.Digesters.{Digesters}
 use Rattle.oci_digests.specs.Both.{BothHold}

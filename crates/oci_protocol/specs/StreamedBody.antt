@@ -1,6 +1,6 @@
 use Rattle.std.specs.Prelude.{◌≡◌, ◌≤◌, ℕ, List, [], ◌++◌, Some, Option, length}
 use Rattle.oci_transport.specs.Link.{Link, HasTaken, EndsUnbroken}
-use Rattle.json_values.specs.SinkState.{SinkState, Adds}
+use Rattle.byte_streams.specs.SinkState.{SinkState, Adds}
 use Rattle.oci_digests.specs.declared.digester.Algorithm.{Algorithm}
 use Rattle.oci_digests.specs.declared.both.Digesters.{Digesters}
 use Rattle.oci_digests.specs.Both.{BothHold}

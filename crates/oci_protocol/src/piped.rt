@@ -4,7 +4,8 @@ ghost use Rattle.json_values.specs.Counts.{Increased};
 ghost use Rattle.oci_transport.specs.Link.{Steady, TakesPast};
 ghost use Rattle.oci_protocol.specs.StreamedBody.{StreamsBody, StreamsPrefix};
 
-use json_values::{Copied, Sink, SinkError, put_all};
+use byte_streams::{Sink, SinkError, put_all};
+use json_values::Copied;
 use oci_digests::Digesters;
 use oci_transport::{LinkError, Transport};
 use std::alloc::{AllocError, Global};

@@ -11,16 +11,16 @@ use Rattle.oci_transport.specs.Link.{Link}
 use Rattle.engine_terms.specs.Contexts.{within}
 use Rattle.oci_link.specs.declared.shelf.Shelf.{Shelf}
 use Rattle.shelf_laws.proofs.Tokens.{fresh_settled}
-use Rattle.sig_calls.specs.Clients.{Kept, Client}
+use Rattle.registry_calls.specs.Clients.{Kept, Client}
 use Rattle.cosign_layers.specs.Satisfying.{CustomVerdict, policy_context, satisfies_policy}
-use Rattle.cosign_layers.specs.Trust.{trust}
-use Rattle.cosign_layers.specs.Verifier.{valid_in}
+use Rattle.cosign_parts.specs.Trust.{trust}
+use Rattle.cosign_parts.specs.Verifier.{valid_in}
 use Rattle.cosign_layers.specs.declared.policy.PullPolicy.{PullPolicy}
-use Rattle.cosign_layers.specs.declared.verifier.TableVerifier.{TableVerifier}
+use Rattle.cosign_parts.specs.declared.verifier.TableVerifier.{TableVerifier}
 use Rattle.cosign_chain.specs.declared.image.VerifiedImage.{VerifiedImage}
 use Rattle.cosign_rows.specs.Refusal.{is_memory}
-use Rattle.cosign_rows.specs.Settled.{IsSettled}
-use Rattle.cosign_rows.specs.Shelves.{AnswersFrom, OkOrMemory, ValidShelf}
+use Rattle.cosign_shelves.specs.Settled.{IsSettled}
+use Rattle.cosign_shelves.specs.Shelves.{AnswersFrom, OkOrMemory, ValidShelf}
 use Rattle.cosign_rows.specs.Verified.{verified}
 use Rattle.cosign_rows.specs.declared.refusal.PullRefusal.{PullRefusal}
 use Rattle.cosign_rows.specs.declared.refusal.PullRefusal.TheVariants as refusal

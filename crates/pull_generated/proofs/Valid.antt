@@ -37,11 +37,11 @@ use Rattle.serde_json.specs.Data.{null}
 use Rattle.cosign_layers.specs.Constraint.{accepts, has_text_member}
 use Rattle.cosign_layers.specs.Satisfying.{PolicyContext, CustomVerdict, StandsFor, SatisfiesPolicy, Signed, text_of}
 use Rattle.cosign_layers.specs.declared.constraint.Constraint.{Constraint}
-use Rattle.cosign_layers.specs.declared.layer.SignatureLayer.{SignatureLayer}
+use Rattle.cosign_parts.specs.declared.layer.SignatureLayer.{SignatureLayer}
 use Rattle.cosign_layers.proofs.Layers.{gives}
 use Rattle.cosign_rows.specs.Part.{named_layer, read_layer}
 use Rattle.cosign_rows.specs.References.{signature_tag}
-use Rattle.cosign_rows.specs.Shelves.{IsAsked, HasSatisfyingLayer, SignedByTag, ValidShelf, read_on, digest_on}
+use Rattle.cosign_shelves.specs.Shelves.{IsAsked, HasSatisfyingLayer, SignedByTag, ValidShelf, read_on, digest_on}
 use Rattle.generated_image.specs.Shelf.{tag_for, payload_of, generated_shelf, HasTwoDigests}
 use Rattle.generated_image.specs.Texts.{sha256_text, image_text, payload_type, signatures_text}
 use Rattle.generated_image.proofs.Layer.{input_of, layer_for, layer_is, spells}

@@ -9,14 +9,14 @@ use Rattle.oci_transport.specs.Link.{Link}
 use Rattle.engine_terms.specs.Contexts.{Context, within}
 use Rattle.engine_terms.specs.declared.settings.ClientProtocol.TheVariants.{Http}
 use Rattle.engine_terms.specs.declared.settings.Settings.{Settings}
-use Rattle.sig_calls.specs.Clients.{Kept}
+use Rattle.registry_calls.specs.Clients.{Kept}
 use Rattle.cosign_layers.specs.Satisfying.{PolicyContext, CustomVerdict, policy_context}
-use Rattle.cosign_layers.specs.Trust.{Trust, trust}
-use Rattle.cosign_layers.specs.Verifier.{valid_in}
+use Rattle.cosign_parts.specs.Trust.{Trust, trust}
+use Rattle.cosign_parts.specs.Verifier.{valid_in}
 use Rattle.cosign_layers.specs.declared.constraint.Constraint.{Constraint}
 use Rattle.cosign_layers.specs.declared.constraint.Constraint.TheVariants.{Annotations}
 use Rattle.cosign_layers.specs.declared.policy.PullPolicy.{PullPolicy}
-use Rattle.cosign_layers.specs.declared.verifier.SignedRow.{SignedRow}
+use Rattle.cosign_parts.specs.declared.verifier.SignedRow.{SignedRow}
 use Rattle.cosign_chain.specs.declared.image.VerifiedImage.{VerifiedImage}
 use Rattle.cosign_rows.specs.Causes.{PullCause}
 use Rattle.cosign_rows.specs.Snapshots.{snapshot}

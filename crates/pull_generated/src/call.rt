@@ -5,7 +5,7 @@ ghost use Rattle.oci_protocol.specs.Runs.{Told};
 ghost use Rattle.cosign_chain.specs.Chain.{Chain};
 ghost use Rattle.cosign_chain.specs.Links.{Links};
 ghost use Rattle.cosign_rows.specs.Refusal.{FaultCounted, NoSinkFault};
-ghost use Rattle.cosign_rows.specs.Shelves.{AnswersFrom, OkOrMemory};
+ghost use Rattle.cosign_shelves.specs.Shelves.{AnswersFrom, OkOrMemory};
 ghost use Rattle.cosign_rows.specs.Sound.{Backed};
 ghost use Rattle.generated_image.specs.Shelf.{generated_shelf, HasTwoDigests};
 ghost use Rattle.pull_generated.specs.Terms.{generated_context, fresh, generated_reference};
@@ -13,7 +13,7 @@ ghost use Rattle.pull_generated.specs.Terms.{generated_types, generated_meaning,
 
 use crate::terms::{fresh_client, terms_for};
 use cosign_client::{PullRefusal, VerifiedImage};
-use cosign_layers::NoCertificates;
+use cosign_parts::NoCertificates;
 use oci_transport::Transport;
 use sig_registry::Auth;
 use std::alloc::Global;

@@ -2,12 +2,13 @@
 ghost use Rattle.std.specs.Prelude.{◌≡◌, [], ◌∷◌, Some, None, IfOk, codes};
 ghost use Rattle.std.specs.FinMap as map;
 ghost use Rattle.cosign_client.specs.State.{client_state};
-ghost use Rattle.sig_calls.specs.Direct.{reference_in};
+ghost use Rattle.registry_calls.specs.Direct.{reference_in};
 ghost use Rattle.pull_generated.specs.Terms.{generated_settings, fresh, generated_reference};
 ghost use Rattle.pull_generated.specs.Terms.{generated_types, any_layer, signed_row};
 
 use cosign_client::Client;
-use cosign_layers::{AnnotationVerifier, Constraint, PullPolicy, SignedRow, TableVerifier};
+use cosign_layers::{AnnotationVerifier, Constraint, PullPolicy};
+use cosign_parts::{SignedRow, TableVerifier};
 use generated_image::payload_digest;
 use json_values::{Annotations, Blob, List, Text, TextMap};
 use oci_engine::{ClientConfig, ClientProtocol};

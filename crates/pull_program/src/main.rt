@@ -1,10 +1,10 @@
 //! The program: `run` of `pull_run` over standard input and output.
 #![tactic(auto)]
 
+pub use byte_streams::{Failed, MemorySource, PlainSource, Source, StdSink, StdSource};
 use json_values::{List, Text};
-pub use pull_cases::Report;
-pub use pull_edge::{Failed, MemorySource, PlainSource, Source, StdSink, StdSource};
 pub use pull_run::{Status, Word, run};
+pub use pulled_cases::Report;
 use std::alloc::Global;
 use std::env::{self, Env};
 use std::io;

@@ -13,8 +13,8 @@ use Rattle.engine_terms.specs.declared.error.SpecViolation.{SpecViolation}
 use Rattle.engine_terms.specs.declared.error.SpecViolation.TheVariants as violation
 use Rattle.engine_terms.specs.declared.error.OciDistributionError.{OciDistributionError}
 use Rattle.engine_terms.specs.declared.error.OciDistributionError.TheVariants as distribution
-use Rattle.sig_calls.specs.declared.error.SigstoreError.{SigstoreError}
-use Rattle.sig_calls.specs.declared.error.SigstoreError.TheVariants as sigstore
+use Rattle.registry_calls.specs.declared.error.SigstoreError.{SigstoreError}
+use Rattle.registry_calls.specs.declared.error.SigstoreError.TheVariants as sigstore
 use Rattle.cosign_layers.specs.declared.rejection.LayerPart.{LayerPart}
 use Rattle.cosign_layers.specs.declared.rejection.LayerPart.TheVariants as part
 use Rattle.cosign_layers.specs.declared.rejection.LayerRejection.{LayerRejection}

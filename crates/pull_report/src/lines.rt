@@ -4,7 +4,7 @@ ghost use Rattle.pull_report.specs.Words.{line};
 ghost use Rattle.pull_report.specs.Lines.{method_name};
 
 use crate::printed::{Printed, print_row, word};
-use cosign_layers::SignatureLayer;
+use cosign_parts::SignatureLayer;
 use cosign_rows::Skipped;
 use json_values::{Blob, row};
 use oci_descriptors::OciDescriptor;

@@ -3,7 +3,7 @@ use crate::printed::{Printed, print_row, word};
 use engine_terms::{GenericCause, OciDistributionError, SpecViolation, TokenBody};
 use json_values::{Blob, row};
 use oci_digests::DigestError;
-use sig_calls::SigstoreError;
+use registry_calls::SigstoreError;
 use std::alloc::{AllocError, Global};
 
 impl Printed for DigestError {

@@ -1,10 +1,10 @@
 -- The exit status for a case whose registry has its image.
 use Rattle.std.proofs.Common.{◌≡◌, ◌≤◌, inl, inr, ℕ, Bool, true, false, not, List, Option, Some, None, length, refl, sym, ap, subst, ◌∙◌}
-use Rattle.json_values.specs.SinkState.{SinkState}
-use Rattle.pull_edge.specs.Source.{SourceState}
-use Rattle.pull_case.specs.Case.{case_in}
-use Rattle.pull_case.specs.declared.case.Case.{Case}
-use Rattle.pull_cases.specs.declared.report.Report.{Report}
+use Rattle.byte_streams.specs.SinkState.{SinkState}
+use Rattle.byte_streams.specs.Source.{SourceState}
+use Rattle.recorded_case.specs.Case.{case_in}
+use Rattle.recorded_case.specs.declared.case.Case.{Case}
+use Rattle.pulled_cases.specs.declared.report.Report.{Report}
 use Rattle.pull_run.specs.declared.status.Status.{Status}
 use Rattle.pull_run.specs.declared.status.Status.TheVariants as status
 use Rattle.pull_run.specs.declared.word.Word.{Word}
@@ -12,7 +12,7 @@ use Rattle.pull_run.specs.declared.word.Word.TheVariants.{Pull}
 use Rattle.pull_run.specs.Complete.{HasImage, EndsDone, EndsComplete}
 use Rattle.pull_run.specs.Input.{input_limit, IsRead}
 use Rattle.pull_run.specs.Program.{TaskStatusMeans, StatusMeans}
-use Rattle.pull_cases.specs.Pulls.{PullRecord, all_answered, ReportsCase}
+use Rattle.pulled_cases.specs.Pulls.{PullRecord, all_answered, ReportsCase}
 use Rattle.pull_run.specs.Status.{code_of}
 use Rattle.pull_run.specs.Task.{task_by, task_of}
 use Rattle.pull_run.specs.Word.{word_of}

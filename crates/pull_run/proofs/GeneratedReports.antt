@@ -8,7 +8,7 @@ use Rattle.cosign_rows.specs.declared.refusal.PullRefusal.{PullRefusal}
 use Rattle.generated_image.specs.Shelf.{generated_shelf}
 use Rattle.pull_generated.specs.Terms.{PullsGenerated}
 use Rattle.pull_run.specs.Generated.{generated_lines, WritesGenerated, Generated}
-use Rattle.pull_cases.specs.declared.report.Report.{Report}
+use Rattle.pulled_cases.specs.declared.report.Report.{Report}
 
 pub gives : {E : Type 0} (n requests : ℕ) (before after : Link) (asked : List Exchange) (outcome : Result VerifiedImage PullRefusal) (written : Result Report E)
     → before.answers ≡ Some (answering (generated_shelf n)) → before.told ≡ Some [] → Some asked ≡ after.told → requests ≡ length asked

@@ -3,10 +3,10 @@ use Rattle.std.proofs.Common.{◌≡◌, ◌+◌, ℕ, List, ◌++◌, Option, S
 use Rattle.std.specs.Prelude.{Result, IfOk}
 use Rattle.std.specs.Result.{IsErr, IsErrAnd}
 use Rattle.std.specs.Io.KnownBytes.{Consumes, IsAtEnd}
-use Rattle.pull_edge.specs.Source.{SourceState}
-use Rattle.pull_edge.specs.Reading.{Reads, TakesWithin}
-use Rattle.pull_edge.specs.declared.reading.ReadRefusal.{ReadRefusal}
-use Rattle.pull_edge.specs.declared.reading.ReadRefusal.TheVariants as read
+use Rattle.byte_streams.specs.Source.{SourceState}
+use Rattle.byte_streams.specs.Reading.{Reads, TakesWithin}
+use Rattle.byte_streams.specs.declared.reading.ReadRefusal.{ReadRefusal}
+use Rattle.byte_streams.specs.declared.reading.ReadRefusal.TheVariants as read
 use Rattle.pull_run.specs.Input.{input_limit, IsInput, IsRead, ReadsInput}
 use Rattle.pull_run.specs.Status.{status_of}
 use Rattle.pull_run.specs.declared.status.Status.{Status}

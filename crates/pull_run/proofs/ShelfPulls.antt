@@ -13,21 +13,21 @@ use Rattle.oci_protocol.proofs.Laws.{Runs-count}
 use Rattle.oci_link.specs.State.{answering}
 use Rattle.oci_link.specs.declared.shelf.Shelf.{Shelf}
 use Rattle.shelf_laws.specs.EvaluatesWith.{OrMemory}
-use Rattle.sig_calls.specs.Clients.{Kept}
+use Rattle.registry_calls.specs.Clients.{Kept}
 use Rattle.cosign_chain.specs.declared.image.VerifiedImage.{VerifiedImage}
 use Rattle.cosign_rows.specs.Refusal.{is_memory}
-use Rattle.cosign_rows.specs.Settled.{IsSettled}
+use Rattle.cosign_shelves.specs.Settled.{IsSettled}
 use Rattle.cosign_rows.specs.Verified.{Whole}
 use Rattle.cosign_rows.specs.declared.refusal.PullRefusal.{PullRefusal}
 use Rattle.cosign_laws.proofs.ShelfCalls.{new_settled}
 use Rattle.cosign_laws.proofs.ShelfPulls.{run_wide, run_settled}
-use Rattle.pull_case.specs.Policy.{meaning_of}
-use Rattle.pull_case.specs.Registry.{answering_by}
-use Rattle.pull_case.specs.declared.case.Case.{Case}
+use Rattle.recorded_case.specs.Policy.{meaning_of}
+use Rattle.recorded_case.specs.Registry.{answering_by}
+use Rattle.recorded_case.specs.declared.case.Case.{Case}
 use Rattle.pull_run.specs.Complete.{HasImage}
-use Rattle.pull_cases.proofs.PullsInTurn.{Turns, turns}
-use Rattle.pull_cases.specs.Pulls.{PullRecord, joined, is_answered, all_answered, is_wanting, EachWhole, settings_of, row_of, Pulled}
-use Rattle.pull_setup.specs.Clients.{fresh}
+use Rattle.pulled_cases.proofs.PullsInTurn.{Turns, turns}
+use Rattle.pulled_cases.specs.Pulls.{PullRecord, joined, is_answered, all_answered, is_wanting, EachWhole, settings_of, row_of, Pulled}
+use Rattle.cosign_client.specs.Clients.{fresh}
 
 -- ---- fault counts if nothing may fail
 

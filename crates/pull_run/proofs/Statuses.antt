@@ -2,11 +2,11 @@
 use Rattle.std.specs.Io.KnownBytes.{Consumes}
 use Rattle.std.proofs.Common.{◌≡◌, ◌≤◌, ◌<◌, inl, inr, ℕ, List, [], ◌∷◌, Option, Some, None, Err, length, option_map, refl, sym, ap, ◌∙◌, arith}
 use Rattle.std.specs.Prelude.{◌↔◌}
-use Rattle.json_values.specs.SinkState.{SinkState}
-use Rattle.pull_edge.specs.Source.{SourceState}
-use Rattle.pull_edge.specs.Reading.{TakesWithin, TakesMore}
-use Rattle.pull_edge.proofs.Springs.{Consumes-none}
-use Rattle.pull_cases.specs.declared.report.Report.{Report}
+use Rattle.byte_streams.specs.SinkState.{SinkState}
+use Rattle.byte_streams.specs.Source.{SourceState}
+use Rattle.byte_streams.specs.Reading.{TakesWithin, TakesMore}
+use Rattle.byte_streams.proofs.Springs.{Consumes-none}
+use Rattle.pulled_cases.specs.declared.report.Report.{Report}
 use Rattle.pull_run.specs.declared.status.Status.{Status}
 use Rattle.pull_run.specs.declared.status.Status.TheVariants as status
 use Rattle.pull_run.specs.declared.word.Word.{Word}

@@ -1,10 +1,10 @@
 -- The verdict on a chain.
 use Rattle.std.proofs.Common.{◌≡◌, ◌↔◌, Bool, true, false, not, refl, subst, sym}
 use Rattle.std.specs.Prelude.{IsTrue}
-use Rattle.pull_chain.specs.Holds.{Holds}
-use Rattle.pull_chain.specs.declared.input.ChainInput.{ChainInput}
+use Rattle.recorded_chain.specs.Holds.{Holds}
+use Rattle.recorded_chain.specs.declared.input.ChainInput.{ChainInput}
 use Rattle.pull_run.specs.Check.{PrintsVerdict, verdict}
-use Rattle.pull_cases.specs.declared.report.Report.{Report}
+use Rattle.pulled_cases.specs.declared.report.Report.{Report}
 
 judged_so : (input : ChainInput) (holds : Bool) → IsTrue holds ↔ Holds input → PrintsVerdict input (record { bytes = verdict (not holds); refused = not holds })
 judged_so input true exact = record { exact = ((λ e. exact.0 refl), (λ h. refl)); line = refl }

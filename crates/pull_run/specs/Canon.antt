@@ -4,7 +4,7 @@ use Rattle.serde_json.specs.Data.{Data}
 use Rattle.json_events.specs.Canonical.{Canonical}
 use Rattle.json_events.specs.Refused.{refused}
 use Rattle.json_events.specs.declared.error.CanonError.TheVariants.{Float, IntegerOutOfRange}
-use Rattle.pull_cases.specs.declared.report.Report.{Report}
+use Rattle.pulled_cases.specs.declared.report.Report.{Report}
 
 -- a line with the value's text
 pub record PrintsText (value : Data) (out : List ℕ) : Type 0 where

@@ -1,8 +1,8 @@
 -- The output line of `check`.
 use Rattle.std.specs.Prelude.{◌≡◌, ◌↔◌, ℕ, Bool, true, false, List, [], ◌∷◌, ◌++◌, codes}
-use Rattle.pull_chain.specs.Holds.{Holds}
-use Rattle.pull_chain.specs.declared.input.ChainInput.{ChainInput}
-use Rattle.pull_cases.specs.declared.report.Report.{Report}
+use Rattle.recorded_chain.specs.Holds.{Holds}
+use Rattle.recorded_chain.specs.declared.input.ChainInput.{ChainInput}
+use Rattle.pulled_cases.specs.declared.report.Report.{Report}
 
 -- the line, by whether a chain is refused
 abbrev pub verdict : Bool → List ℕ

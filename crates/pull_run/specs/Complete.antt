@@ -1,18 +1,18 @@
 -- Which cases end with 0: those whose registry is a shelf that has the image, signed as the policy requires.
 use Rattle.std.specs.Prelude.{◌≡◌, ◌≤◌, ◌⊎◌, ℕ, List, length, Some, Ok}
 use Rattle.json_values.specs.Counts.{Increased}
-use Rattle.json_values.specs.SinkState.{SinkState}
-use Rattle.pull_edge.specs.Source.{SourceState}
+use Rattle.byte_streams.specs.SinkState.{SinkState}
+use Rattle.byte_streams.specs.Source.{SourceState}
 use Rattle.oci_link.specs.declared.shelf.Shelf.{Shelf}
 use Rattle.oci_names.specs.Reference.{reference_of}
 use Rattle.oci_names.specs.declared.reference.Reference.{Reference}
-use Rattle.cosign_rows.specs.Shelves.{WideShelf}
-use Rattle.pull_case.specs.Case.{case_in}
-use Rattle.pull_case.specs.Policy.{meaning_of}
-use Rattle.pull_case.specs.declared.case.Case.{Case}
-use Rattle.pull_case.specs.declared.registry.Registry.TheVariants as registries
+use Rattle.cosign_shelves.specs.Shelves.{WideShelf}
+use Rattle.recorded_case.specs.Case.{case_in}
+use Rattle.recorded_case.specs.Policy.{meaning_of}
+use Rattle.recorded_case.specs.declared.case.Case.{Case}
+use Rattle.recorded_case.specs.declared.registry.Registry.TheVariants as registries
 use Rattle.pull_run.specs.Input.{input_limit}
-use Rattle.pull_cases.specs.Pulls.{settings_of}
+use Rattle.pulled_cases.specs.Pulls.{settings_of}
 use Rattle.pull_run.specs.Word.{word_of}
 use Rattle.pull_run.specs.declared.word.Word.TheVariants.{Pull}
 

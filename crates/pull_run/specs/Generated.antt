@@ -1,17 +1,17 @@
 -- The output of `gen`: the lines of a pull of the generated image over its shelf.
 use Rattle.std.specs.Prelude.{◌≡◌, ◌⊎◌, ℕ, false, List, [], ◌∷◌, ◌++◌, Some, Result, Ok, Err, codes, decimal, length}
 use Rattle.json_values.specs.Counts.{Increased, Unchanged}
-use Rattle.json_values.specs.SinkState.{SinkState, Adds, AddsProperPrefix}
+use Rattle.byte_streams.specs.SinkState.{SinkState, Adds, AddsProperPrefix}
 use Rattle.oci_transport.specs.Link.{Link}
 use Rattle.oci_transport.specs.declared.message.Exchange.{Exchange}
 use Rattle.oci_link.specs.State.{answering}
-use Rattle.pull_edge.specs.Source.{SourceState}
+use Rattle.byte_streams.specs.Source.{SourceState}
 use Rattle.cosign_chain.specs.declared.image.VerifiedImage.{VerifiedImage}
 use Rattle.cosign_rows.specs.declared.refusal.PullRefusal.{PullRefusal}
 use Rattle.generated_image.specs.Shelf.{generated_shelf}
 use Rattle.pull_generated.specs.Terms.{PullsGenerated}
 use Rattle.pull_report.specs.Words.{line}
-use Rattle.pull_cases.specs.declared.report.Report.{Report}
+use Rattle.pulled_cases.specs.declared.report.Report.{Report}
 use Rattle.pull_run.specs.declared.status.Status.{Status}
 use Rattle.pull_run.specs.declared.status.Status.TheVariants as status
 

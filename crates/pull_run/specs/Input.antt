@@ -1,9 +1,9 @@
 -- The input, and how it was read.
 use Rattle.std.specs.Prelude.{◌≡◌, ℕ, List, Option, Some, None, Result, Ok, Err}
-use Rattle.pull_edge.specs.Source.{SourceState}
-use Rattle.pull_edge.specs.Reading.{Reads}
-use Rattle.pull_edge.specs.declared.reading.ReadRefusal.{ReadRefusal}
-use Rattle.pull_edge.specs.declared.reading.ReadRefusal.TheVariants as read
+use Rattle.byte_streams.specs.Source.{SourceState}
+use Rattle.byte_streams.specs.Reading.{Reads}
+use Rattle.byte_streams.specs.declared.reading.ReadRefusal.{ReadRefusal}
+use Rattle.byte_streams.specs.declared.reading.ReadRefusal.TheVariants as read
 use Rattle.pull_run.specs.declared.status.Status.{Status}
 use Rattle.pull_run.specs.declared.status.Status.TheVariants as status
 

@@ -1,8 +1,8 @@
 -- How the output was written.
 use Rattle.std.specs.Prelude.{◌≡◌, true, false}
 use Rattle.json_values.specs.Counts.{Increased, Unchanged}
-use Rattle.json_values.specs.SinkState.{SinkState, Adds, AddsProperPrefix}
-use Rattle.pull_cases.specs.declared.report.Report.{Report}
+use Rattle.byte_streams.specs.SinkState.{SinkState, Adds, AddsProperPrefix}
+use Rattle.pulled_cases.specs.declared.report.Report.{Report}
 use Rattle.pull_run.specs.declared.status.Status.{Status}
 use Rattle.pull_run.specs.declared.status.Status.TheVariants as status
 

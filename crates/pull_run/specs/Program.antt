@@ -1,10 +1,10 @@
 -- What the program did, by its exit status, and the exit status for an input.
 use Rattle.std.specs.Prelude.{◌≡◌, ◌≤◌, ◌<◌, ◌-◌, ◌⊎◌, ◌↔◌, ℕ, Bool, true, false, List, length, Option, Some, None}
 use Rattle.json_values.specs.Counts.{Increased, Unchanged}
-use Rattle.json_values.specs.SinkState.{SinkState, Adds, AddsProperPrefix}
-use Rattle.pull_edge.specs.Source.{SourceState}
-use Rattle.pull_edge.specs.Reading.{TakesWithin}
-use Rattle.pull_edge.specs.declared.reading.ReadRefusal.TheVariants as read
+use Rattle.byte_streams.specs.SinkState.{SinkState, Adds, AddsProperPrefix}
+use Rattle.byte_streams.specs.Source.{SourceState}
+use Rattle.byte_streams.specs.Reading.{TakesWithin}
+use Rattle.byte_streams.specs.declared.reading.ReadRefusal.TheVariants as read
 use Rattle.pull_run.specs.Command.{command_of}
 use Rattle.pull_run.specs.Generated.{GeneratedStatusMeans}
 use Rattle.pull_run.specs.Input.{input_limit, IsCut, IsOther, IsRead}
@@ -13,7 +13,7 @@ use Rattle.pull_run.specs.Task.{Task, task_of}
 use Rattle.pull_run.specs.Word.{word_of}
 use Rattle.pull_run.specs.declared.command.Command.{Command}
 use Rattle.pull_run.specs.declared.command.Command.TheVariants.{Reads, Generates}
-use Rattle.pull_cases.specs.declared.report.Report.{Report}
+use Rattle.pulled_cases.specs.declared.report.Report.{Report}
 use Rattle.pull_run.specs.declared.status.Status.{Status}
 use Rattle.pull_run.specs.declared.status.Status.TheVariants as status
 use Rattle.pull_run.specs.declared.word.Word.{Word}

@@ -1,7 +1,7 @@
 -- The exit statuses of the program.
 use Rattle.std.specs.Prelude.{ℕ}
-use Rattle.pull_edge.specs.declared.reading.ReadRefusal.{ReadRefusal}
-use Rattle.pull_edge.specs.declared.reading.ReadRefusal.TheVariants as read
+use Rattle.byte_streams.specs.declared.reading.ReadRefusal.{ReadRefusal}
+use Rattle.byte_streams.specs.declared.reading.ReadRefusal.TheVariants as read
 use Rattle.pull_run.specs.declared.status.Status.{Status}
 use Rattle.pull_run.specs.declared.status.Status.TheVariants as status
 

@@ -1,12 +1,12 @@
 -- The input and the output of each subcommand.
 use Rattle.std.specs.Prelude.{ℕ, List, Option}
 use Rattle.json_values.specs.JsonText.{json_of}
-use Rattle.pull_case.specs.Case.{case_in}
-use Rattle.pull_chain.specs.Input.{chain_input_in}
+use Rattle.recorded_case.specs.Case.{case_in}
+use Rattle.recorded_chain.specs.Input.{chain_input_in}
 use Rattle.pull_run.specs.Canon.{PrintsValue}
 use Rattle.pull_run.specs.Check.{PrintsVerdict}
-use Rattle.pull_cases.specs.Pulls.{ReportsCase}
-use Rattle.pull_cases.specs.declared.report.Report.{Report}
+use Rattle.pulled_cases.specs.Pulls.{ReportsCase}
+use Rattle.pulled_cases.specs.declared.report.Report.{Report}
 use Rattle.pull_run.specs.declared.word.Word.{Word}
 use Rattle.pull_run.specs.declared.word.Word.TheVariants.{Pull, Canon, Check}
 

@@ -6,7 +6,7 @@ ghost use Rattle.pull_run.specs.Canon.{PrintsValue};
 use crate::task::Task;
 use json_canon::{CanonError, json_to_vec};
 use json_values::{Blob, Json, read_json};
-use pull_cases::Report;
+use pulled_cases::Report;
 use std::alloc::{AllocError, Global};
 
 impl Task for Json {

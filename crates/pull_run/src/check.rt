@@ -1,13 +1,13 @@
 // The subcommand `check`: whether a recorded chain holds.
 ghost use Rattle.std.specs.Prelude.{◌≡◌, IfOk, IfSome};
-ghost use Rattle.pull_case.specs.Case.{IsReady};
-ghost use Rattle.pull_chain.specs.Input.{chain_input_in};
+ghost use Rattle.recorded_case.specs.Case.{IsReady};
+ghost use Rattle.recorded_chain.specs.Input.{chain_input_in};
 ghost use Rattle.pull_run.specs.Check.{PrintsVerdict, verdict};
 
 use crate::task::Task;
 use json_values::Blob;
-use pull_cases::Report;
-use pull_chain::{ChainInput, chain_holds, read_chain_input};
+use pulled_cases::Report;
+use recorded_chain::{ChainInput, chain_holds, read_chain_input};
 use std::alloc::{AllocError, Global};
 
 impl Task for ChainInput {

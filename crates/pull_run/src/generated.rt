@@ -1,18 +1,19 @@
 // The pull of the generated image over its shelf.
 ghost use Rattle.std.specs.Prelude.{◌≡◌, IfOk};
-ghost use Rattle.cosign_rows.specs.Shelves.{OkOrMemory};
-ghost use Rattle.pull_edge.specs.Source.{SourceState};
+ghost use Rattle.cosign_shelves.specs.Shelves.{OkOrMemory};
+ghost use Rattle.byte_streams.specs.Source.{SourceState};
 ghost use Rattle.pull_generated.specs.Terms.{IsCount};
 ghost use Rattle.pull_run.specs.Generated.{generated_lines, WritesGenerated, Generated, GeneratedStatusMeans};
 
 use crate::output::deliver;
 use crate::status::Status;
+use byte_streams::Sink;
 use cosign_client::{PullRefusal, VerifiedImage};
-use json_values::{Blob, Sink, write_decimal};
+use json_values::{Blob, write_decimal};
 use oci_link::ShelfTransport;
-use pull_cases::Report;
 use pull_generated::{generated_shelf, pull_generated};
 use pull_report::{drop_outcome, text_line};
+use pulled_cases::Report;
 use std::alloc::{AllocError, Global};
 
 // The lines of an image that took this number of requests.

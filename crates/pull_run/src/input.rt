@@ -4,7 +4,7 @@ ghost use Rattle.pull_run.specs.Input.{ReadsInput};
 
 use crate::status::Status;
 use crate::task::Task;
-use pull_edge::{INPUT_LIMIT, Source, read_all};
+use byte_streams::{INPUT_LIMIT, Source, read_all};
 use std::alloc::Global;
 
 /// Reads the input to its end, and parses it.

@@ -2,8 +2,8 @@
 ghost use Rattle.pull_run.specs.Output.{Puts};
 
 use crate::status::Status;
-use json_values::{Sink, SinkError, put_all};
-use pull_cases::Report;
+use byte_streams::{Sink, SinkError, put_all};
+use pulled_cases::Report;
 
 /// Writes the output, and returns how that ended.
 pub fn deliver<K: Sink>(sink: &mut K, report: &Report) -> Status

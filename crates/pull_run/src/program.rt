@@ -12,10 +12,10 @@ use crate::output::deliver;
 use crate::status::Status;
 use crate::task::Task;
 use crate::word::Word;
-use json_values::{Json, Sink, Text};
-use pull_case::Case;
-use pull_chain::ChainInput;
-use pull_edge::Source;
+use byte_streams::{Sink, Source};
+use json_values::{Json, Text};
+use recorded_case::Case;
+use recorded_chain::ChainInput;
 use std::alloc::Global;
 
 // Reads the input, computes the task's output, and writes it.

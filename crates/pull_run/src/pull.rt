@@ -1,11 +1,11 @@
 // The subcommand `pull`: the pulls of a recorded case.
 ghost use Rattle.std.specs.Prelude.{◌≡◌, IfOk, IfSome};
-ghost use Rattle.pull_case.specs.Case.{case_in, IsReady};
-ghost use Rattle.pull_cases.specs.Pulls.{ReportsCase};
+ghost use Rattle.recorded_case.specs.Case.{case_in, IsReady};
+ghost use Rattle.pulled_cases.specs.Pulls.{ReportsCase};
 
 use crate::task::Task;
-use pull_case::{Case, read_case};
-use pull_cases::{Report, pull_case};
+use pulled_cases::{Report, pull_case};
+use recorded_case::{Case, read_case};
 use std::alloc::{AllocError, Global};
 
 impl Task for Case {

@@ -2,7 +2,7 @@
 ghost use Rattle.std.specs.Prelude.{◌≡◌};
 ghost use Rattle.pull_run.specs.Status.{code_of};
 
-use pull_edge::ReadRefusal;
+use byte_streams::ReadRefusal;
 use std::alloc::AllocError;
 
 /// How the program ended.

@@ -1,8 +1,8 @@
 // The task of a subcommand.
 ghost use Rattle.std.specs.Prelude.{◌≡◌, ℕ, List, Option, IfOk, IfSome};
-ghost use Rattle.pull_cases.specs.declared.report.Report.{Report};
+ghost use Rattle.pulled_cases.specs.declared.report.Report.{Report};
 
-use pull_cases::Report;
+use pulled_cases::Report;
 use std::alloc::{AllocError, Global};
 
 /// What a subcommand parses its input as, and its output for it.

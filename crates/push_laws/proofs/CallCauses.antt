@@ -12,11 +12,11 @@ use Rattle.engine_terms.specs.declared.error.OciDistributionError.{OciDistributi
 use Rattle.engine_terms.specs.declared.error.OciDistributionError.TheVariants as refusal
 use Rattle.engine_terms.specs.declared.settings.Settings.{Settings}
 use Rattle.engine_rows.specs.Rows.{Row}
-use Rattle.engine_laws.specs.TokenCauses.{LastIs}
+use Rattle.engine_rows.specs.TokenCauses.{LastIs}
 use Rattle.engine_laws.proofs.FaultCounts.{fault_last, refusal_told}
 use Rattle.engine_push.specs.Calls.{push_blob, push_blob_stream, push_blob_stream_chunked, mount_blob}
 use Rattle.engine_push.specs.declared.stream.PushBlobStreamChunkedResponse.{PushBlobStreamChunkedResponse}
-use Rattle.push_laws.specs.Causes.{PushText, PushCause, OfBytes, OfStream, OfNamedStream, OfNothing}
+use Rattle.engine_push.specs.Causes.{PushText, PushCause, OfBytes, OfStream, OfNamedStream, OfNothing}
 use Rattle.push_laws.proofs.RequestCauses.{Shown}
 use Rattle.push_laws.proofs.UploadCauses.{blob_shown, stream_shown, named_shown, mount_shown}
 

@@ -28,8 +28,8 @@ use Rattle.engine_terms.specs.declared.settings.Settings.{Settings}
 use Rattle.engine_requests.specs.Addresses.{uploads_text, url_read}
 use Rattle.engine_requests.specs.Requests.{request_of}
 use Rattle.engine_rows.specs.Rows.{Row, authorized}
-use Rattle.engine_laws.specs.Confined.{ToRegistry, Each, Within}
-use Rattle.engine_laws.specs.Held.{Entry, asking}
+use Rattle.engine_rows.specs.Confined.{ToRegistry, Each, Within}
+use Rattle.engine_rows.specs.Held.{Entry, asking}
 use Rattle.engine_laws.proofs.CallConfinement.{call_within}
 use Rattle.engine_laws.proofs.KeptTokens.{Keeps, keeps_first, keeps_more}
 use Rattle.engine_laws.proofs.RequestConfinement.{Sent as SentBy, SentValue, each_more, request_values, request_url_is}

@@ -34,7 +34,7 @@ use Rattle.engine_requests.specs.Addresses.{registry_text, uploads_text, url_or,
 use Rattle.engine_requests.specs.Requests.{request_of}
 use Rattle.engine_answers.specs.Answers.{is_success}
 use Rattle.engine_rows.specs.Rows.{Row, authorized}
-use Rattle.engine_laws.specs.TokenCauses.{LastIs}
+use Rattle.engine_rows.specs.TokenCauses.{LastIs}
 use Rattle.engine_laws.proofs.FaultCounts.{last_after}
 use Rattle.engine_laws.proofs.RequestConfinement.{request_method_is}
 use Rattle.engine_push.specs.Contents.{with_content}
@@ -43,7 +43,7 @@ use Rattle.engine_push.proofs.Endings.{NoRegistry, authorized_fine, Textual, mad
 use Rattle.engine_push.specs.Uploads.{unless_success, location_reply, location_after, sent}
 use Rattle.engine_push.specs.declared.content.Content.{Content}
 use Rattle.push_laws.proofs.PushedHeaders.{content_made}
-use Rattle.push_laws.specs.Causes.{IsPushed, AnsweredPush, Named, PushText, CannotBeMade, ShownBy, PushCause}
+use Rattle.engine_push.specs.Causes.{IsPushed, AnsweredPush, Named, PushText, CannotBeMade, ShownBy, PushCause}
 
 -- ---- which texts may be malformed URLs
 

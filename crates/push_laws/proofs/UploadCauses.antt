@@ -24,7 +24,7 @@ use Rattle.engine_push.specs.Uploads.{Sent, upload_begun, chunk_sent, upload_end
 use Rattle.engine_push.specs.declared.content.Content.{Content}
 use Rattle.engine_push.specs.declared.content.Content.TheVariants.{Nothing, Whole, Chunk}
 use Rattle.engine_terms.specs.declared.settings.Settings.{Settings}
-use Rattle.push_laws.specs.Causes.{Named, PushText, PushCause, OfBytes, OfStream, OfNamedStream, OfNothing}
+use Rattle.engine_push.specs.Causes.{Named, PushText, PushCause, OfBytes, OfStream, OfNamedStream, OfNothing}
 use Rattle.push_laws.proofs.RequestCauses.{Texts, call_texts, texts_after, cause_after, Shown, shown_next, shown_step, shown_done, url_shown, sent_shown}
 
 -- what holds for a larger set of texts holds for a smaller one

@@ -1,3 +1,2 @@
-//! The properties of every run of the rows of pushes: where credentials go, and why a push was refused. Contains only
-//! definitions and laws.
+//! What every run of the rows of pushes shows: where credentials go, and why a push was refused. It has laws alone.
 #![tactic(auto)]

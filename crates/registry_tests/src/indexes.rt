@@ -3,8 +3,8 @@ use json_values::Text;
 use oci_auth::RegistryAuth;
 use oci_engine::{Client, ClientConfig, PlatformResolver};
 use oci_names::{Arch, Os, Reference};
+use recorded_answers::{CONFIG_DIGEST, MANIFEST, MANIFEST_DIGEST, script};
 use std::alloc::Global;
-use test_answers::{CONFIG_DIGEST, MANIFEST, MANIFEST_DIGEST, script};
 
 // Entries for `arm64` and `amd64`; the second one is the recorded manifest.
 const INDEX: &str =

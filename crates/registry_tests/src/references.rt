@@ -1,9 +1,9 @@
 // The references that the search for signatures accepts.
 use json_values::{Copied, Text};
 use oci_auth::RegistryAuth;
+use recorded_answers::LAYER_DIGEST;
 use sig_registry::{Auth, OciReference, SigstoreError};
 use std::alloc::{AllocError, Global};
-use test_answers::LAYER_DIGEST;
 
 fn holds(answer: Result<bool, AllocError>) -> bool {
     match answer {

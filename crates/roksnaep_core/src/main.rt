@@ -1,9 +1,9 @@
-//! The program: `run` of `pull_live` over standard input and output.
+//! The program: `run` of `live_pull` over standard input and output.
 #![tactic(auto)]
 
+pub use byte_streams::{StdSink, StdSource};
 pub use live_host::Streams;
-pub use pull_edge::{StdSink, StdSource};
-pub use pull_live::{Ended, Status, run};
+pub use live_pull::{Ended, Status, run};
 use std::process::ExitCode;
 
 // What an exit status other than 0 and 1 means, and what to do.

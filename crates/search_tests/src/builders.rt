@@ -1,6 +1,6 @@
 // The builder of a client of signatures.
 use cosign_client::{Client, ClientBuilder, TrustRoot};
-use cosign_layers::LogKeys;
+use cosign_parts::LogKeys;
 use json_values::{Blob, Text};
 use std::alloc::{AllocError, Global};
 

@@ -2,14 +2,15 @@
 use cosign_client::{
     Client, ClientBuilder, PullRefusal, TrustedLayers, VerifiedImage, check_links,
 };
-use cosign_layers::{
-    AnnotationVerifier, Constraint, NoCertificates, PullPolicy, SignedRow, TableVerifier,
-};
+use cosign_layers::{AnnotationVerifier, Constraint, PullPolicy};
+use cosign_parts::{NoCertificates, SignedRow, TableVerifier};
 use json_values::{Annotations, Blob, List, Text};
 use oci_transport::Script;
+use recorded_answers::{
+    CONFIG_DIGEST, LAYER_DIGEST, LAYER_TYPE, MANIFEST, MANIFEST_DIGEST, script,
+};
 use sig_registry::{Auth, OciReference, SigstoreError};
 use std::alloc::{AllocError, Global};
-use test_answers::{CONFIG_DIGEST, LAYER_DIGEST, LAYER_TYPE, MANIFEST, MANIFEST_DIGEST, script};
 
 const IMAGE: &str = "localhost:5000/app:v1";
 

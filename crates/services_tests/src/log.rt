@@ -2,7 +2,7 @@
 use crate::recorded::{asked, holds, script, showed};
 use json_values::{Json, List, Text, read_json};
 use oci_transport::{Method, Script};
-use sig_models::{ProposedEntry, SearchIndex, SearchLogQuery};
+use service_models::{ProposedEntry, SearchIndex, SearchLogQuery};
 use sig_services::{
     Configuration, CreateLogEntryError, Error, GetLogEntryByUuidError, create_log_entry,
     get_log_entry_by_index, get_log_entry_by_uuid, get_log_info, get_log_proof, get_public_key,

@@ -2,7 +2,7 @@
 use crate::recorded::holds;
 use json_tables::Reads;
 use json_values::{ToValue, read_json};
-use sig_models::{
+use service_models::{
     Error, Format, Hashedrekord, HashedrekordAllOf, InactiveShardLogInfo, ModelError, SctError,
     SearchIndex, SearchIndexPublicKey, SearchLogQuery, read_sct_signature,
 };

@@ -10,13 +10,14 @@ use Rattle.oci_protocol.specs.Lift.{lifted}
 use Rattle.oci_protocol.specs.Runs.{Meets}
 use Rattle.oci_protocol.proofs.Laws.{Meets-next, Meets-refused, Meets-ok, Meets-memory, Meets-recall, Meets-keep}
 use Rattle.oci_protocol.proofs.WiderMemory.{Meets-lifted}
-use Rattle.sig_answers.specs.Answers.{keep, entry}
-use Rattle.sig_answers.specs.declared.answers.Answers.{Answers}
-use Rattle.sig_calls.specs.declared.error.SigstoreError.{SigstoreError}
-use Rattle.sig_calls.specs.declared.error.SigstoreError.TheVariants as refusal
-use Rattle.sig_calls.specs.Error.{is_memory}
-use Rattle.sig_calls.specs.Clients.{Kept, Plain, Row}
-use Rattle.sig_calls.specs.Caching.{Cache, known, keeping, known_or, recalled, cached}
+use Rattle.registry_cache.specs.Answers.{keep, entry}
+use Rattle.registry_cache.specs.declared.answers.Answers.{Answers}
+use Rattle.registry_calls.specs.declared.error.SigstoreError.{SigstoreError}
+use Rattle.registry_calls.specs.declared.error.SigstoreError.TheVariants as refusal
+use Rattle.registry_calls.specs.Error.{is_memory}
+use Rattle.registry_calls.specs.Clients.{Kept, Plain, Row}
+use Rattle.registry_calls.specs.Caching.{keeping, known_or, recalled, cached}
+use Rattle.registry_cache.specs.Caching.{Cache, known}
 
 -- memory ran out before anything was done
 pub absent : {A : Type 0} {p : Row A} {link : Link} {k : Kept} {r : Result A SigstoreError} → IsErrAnd r (λ e. e ≡ refusal.WantOfMemory) → Meets is_memory p link link k k r

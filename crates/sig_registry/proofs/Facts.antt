@@ -18,22 +18,23 @@ use Rattle.engine_terms.specs.declared.settings.Settings.{Settings}
 use Rattle.engine_terms.specs.declared.error.OciDistributionError.{OciDistributionError}
 use Rattle.engine_terms.specs.Contexts.{within}
 use Rattle.engine_rows.specs.declared.image.ImageData.{ImageData}
-use Rattle.engine_laws.specs.Confined.{Within}
-use Rattle.engine_laws.specs.Held.{pulling}
-use Rattle.engine_laws.specs.Referrers.{WithinReferrers}
+use Rattle.engine_rows.specs.Confined.{Within}
+use Rattle.engine_rows.specs.Held.{pulling}
+use Rattle.engine_rows.specs.ReferrersCauses.{WithinReferrers}
 use Rattle.oci_engine.specs.declared.client.Client.{Client as Engine}
-use Rattle.sig_answers.specs.Answers.{keep, entry, kind_of, as_digest, as_manifest, as_image, as_referrers}
-use Rattle.sig_answers.specs.declared.answer.Answer.{Answer}
-use Rattle.sig_answers.specs.declared.answer.Answer.TheVariants.{Digest, Manifest, Image, Referrers}
-use Rattle.sig_answers.specs.declared.answers.Answers.{Answers}
-use Rattle.sig_calls.specs.declared.error.SigstoreError.{SigstoreError}
-use Rattle.sig_calls.specs.declared.error.SigstoreError.TheVariants as refusal
-use Rattle.sig_calls.specs.Error.{is_memory, Matches, registry_refusal, IsRefusedBy}
-use Rattle.sig_calls.specs.Clients.{Kept, Plain, Client, ClientMeets, RefusalKeeps}
+use Rattle.registry_cache.specs.Answers.{keep, entry, kind_of, as_digest, as_manifest, as_image, as_referrers}
+use Rattle.registry_cache.specs.declared.answer.Answer.{Answer}
+use Rattle.registry_cache.specs.declared.answer.Answer.TheVariants.{Digest, Manifest, Image, Referrers}
+use Rattle.registry_cache.specs.declared.answers.Answers.{Answers}
+use Rattle.registry_calls.specs.declared.error.SigstoreError.{SigstoreError}
+use Rattle.registry_calls.specs.declared.error.SigstoreError.TheVariants as refusal
+use Rattle.registry_calls.specs.Error.{is_memory, Matches, registry_refusal, IsRefusedBy}
+use Rattle.registry_calls.specs.Clients.{Kept, Plain, Client, ClientMeets, RefusalKeeps}
 use Rattle.sig_registry.specs.States.{engine_state, PlainlyMade}
-use Rattle.sig_calls.specs.Caching.{Cache, known, cached, key_if}
-use Rattle.sig_calls.specs.Calls.{digests, manifests, images, referrers}
-use Rattle.sig_calls.specs.Log.{Call, image_called, kind_called, key_called, answering, call_made, Recalled, Logged}
+use Rattle.registry_calls.specs.Caching.{cached}
+use Rattle.registry_cache.specs.Caching.{Cache, known, key_if}
+use Rattle.registry_cache.specs.KeptCalls.{digests, manifests, images, referrers}
+use Rattle.registry_calls.specs.Log.{Call, image_called, kind_called, key_called, answering, call_made, Recalled, Logged}
 use Rattle.sig_registry.proofs.CachedAnswers as kept
 use Rattle.sig_registry.proofs.Logs.{IsCache, logged as logged_call}
 

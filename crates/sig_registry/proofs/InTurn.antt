@@ -23,17 +23,17 @@ use Rattle.oci_engine.specs.Refusals.{RefusedFor}
 use Rattle.engine_terms.specs.Error.{is_memory as engine_is_memory}
 use Rattle.engine_rows.specs.Rows.{Row as Engine, token_given}
 use Rattle.engine_rows.specs.Referrers.{pull_referrers}
-use Rattle.engine_laws.specs.Confined.{Within}
-use Rattle.engine_laws.specs.Held.{Entry, pulling}
-use Rattle.engine_laws.specs.Referrers.{WithinReferrers}
+use Rattle.engine_rows.specs.Confined.{Within}
+use Rattle.engine_rows.specs.Held.{Entry, pulling}
+use Rattle.engine_rows.specs.ReferrersCauses.{WithinReferrers}
 use Rattle.engine_laws.proofs.ReferrersConfinement.{given_referrers_confined}
-use Rattle.sig_calls.specs.declared.error.SigstoreError.{SigstoreError}
-use Rattle.sig_calls.specs.declared.error.SigstoreError.TheVariants as sigstore
-use Rattle.sig_calls.specs.declared.error_context.Called.{Called}
-use Rattle.sig_calls.specs.Error.{is_memory, Matches, IsRefusedBy, NoSinkFault}
-use Rattle.sig_calls.specs.ErrorContext.{refusal, with_error_context}
+use Rattle.registry_calls.specs.declared.error.SigstoreError.{SigstoreError}
+use Rattle.registry_calls.specs.declared.error.SigstoreError.TheVariants as sigstore
+use Rattle.registry_calls.specs.declared.error_context.Called.{Called}
+use Rattle.registry_calls.specs.Error.{is_memory, Matches, IsRefusedBy, NoSinkFault}
+use Rattle.registry_calls.specs.ErrorContext.{refusal, with_error_context}
 use Rattle.sig_registry.proofs.InWords.{worded_fault, worded_no_sink}
-use Rattle.sig_calls.specs.Clients.{Plain}
+use Rattle.registry_calls.specs.Clients.{Plain}
 use Rattle.sig_registry.specs.States.{PlainlyMade}
 use Rattle.oci_engine.specs.Kept.{auth_state_of}
 

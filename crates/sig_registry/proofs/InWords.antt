@@ -14,17 +14,17 @@ use Rattle.engine_terms.specs.declared.error.OciDistributionError.{OciDistributi
 use Rattle.engine_terms.specs.declared.error.OciDistributionError.TheVariants as engine_refusal
 use Rattle.engine_terms.specs.Error.{is_memory as engine_is_memory}
 use Rattle.oci_engine.specs.Refusals.{RefusedFor}
-use Rattle.sig_calls.specs.declared.error_context.Called.TheVariants.{FetchManifest, Pull, PullManifest}
+use Rattle.registry_calls.specs.declared.error_context.Called.TheVariants.{FetchManifest, Pull, PullManifest}
 use Rattle.engine_rows.specs.Rows.{Row as Engine}
 use Rattle.oci_engine.specs.declared.client.Client.{Client}
-use Rattle.sig_calls.specs.declared.error.SigstoreError.{SigstoreError}
-use Rattle.sig_calls.specs.declared.error.SigstoreError.TheVariants as sigstore
-use Rattle.sig_calls.specs.declared.error_context.Called.{Called}
-use Rattle.sig_calls.specs.Error.{is_memory, Matches, registry_refusal, IsRefusedBy, NoSinkFault}
-use Rattle.sig_calls.specs.ErrorContext.{refusal, with_error_context}
-use Rattle.sig_calls.specs.Clients.{Plain}
+use Rattle.registry_calls.specs.declared.error.SigstoreError.{SigstoreError}
+use Rattle.registry_calls.specs.declared.error.SigstoreError.TheVariants as sigstore
+use Rattle.registry_calls.specs.declared.error_context.Called.{Called}
+use Rattle.registry_calls.specs.Error.{is_memory, Matches, registry_refusal, IsRefusedBy, NoSinkFault}
+use Rattle.registry_calls.specs.ErrorContext.{refusal, with_error_context}
+use Rattle.registry_calls.specs.Clients.{Plain}
 use Rattle.sig_registry.specs.States.{PlainlyMade}
-use Rattle.sig_calls.specs.Calls.{in_words}
+use Rattle.registry_calls.specs.Calls.{in_words}
 use Rattle.oci_engine.specs.Kept.{auth_state_of}
 
 true_is_not_false : true ≡ false → ⊥

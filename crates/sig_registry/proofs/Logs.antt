@@ -18,19 +18,20 @@ use Rattle.oci_protocol.proofs.WiderMemory.{Runs-unlifted}
 use Rattle.oci_protocol.proofs.Parts.{Parts, Runs-parts}
 use Rattle.engine_terms.specs.declared.settings.Settings.{Settings}
 use Rattle.engine_terms.specs.Contexts.{Context, within}
-use Rattle.sig_settings.proofs.Tells.{manifest_keys_tell, pull_keys_tell, referrers_keys_tell}
-use Rattle.sig_answers.specs.Answers.{kind_of, same_kind, is_of, is_fresh, given_at, fresh, fits, within as within_bounds, keep, entry}
-use Rattle.sig_answers.specs.declared.answer.Answer.{Answer}
-use Rattle.sig_answers.specs.declared.answer.Kind.{Kind}
-use Rattle.sig_answers.specs.declared.answer.Kind.TheVariants as kinds
-use Rattle.sig_answers.specs.declared.answers.Answers.{Answers}
-use Rattle.sig_answers.specs.declared.answers.Bounds.{Bounds}
-use Rattle.sig_answers.specs.declared.answers.Entry.{Entry}
-use Rattle.sig_calls.specs.declared.error.SigstoreError.{SigstoreError}
-use Rattle.sig_calls.specs.Error.{is_memory}
-use Rattle.sig_calls.specs.Clients.{Kept, Plain, Row, Client, ClientMeets, RefusalKeeps}
-use Rattle.sig_calls.specs.Caching.{Cache, known, keeping, known_or, recalled, cached}
-use Rattle.sig_calls.specs.Log.{Call, DigestCall, ManifestCall, ImageCall, ReferrersCall, image_called, kind_called, key_called, answered, answering, call_made, LoggedCall, IsStep, AnyOf, IsOrigin, IsSource, HasSource, IsRun, EachBacked, IsBacked, place_of, IsLawful, Logged}
+use Rattle.registry_cache.proofs.Tells.{manifest_keys_tell, pull_keys_tell, referrers_keys_tell}
+use Rattle.registry_cache.specs.Answers.{kind_of, same_kind, is_of, is_fresh, given_at, fresh, fits, within as within_bounds, keep, entry}
+use Rattle.registry_cache.specs.declared.answer.Answer.{Answer}
+use Rattle.registry_cache.specs.declared.answer.Kind.{Kind}
+use Rattle.registry_cache.specs.declared.answer.Kind.TheVariants as kinds
+use Rattle.registry_cache.specs.declared.answers.Answers.{Answers}
+use Rattle.registry_cache.specs.declared.answers.Bounds.{Bounds}
+use Rattle.registry_cache.specs.declared.answers.Entry.{Entry}
+use Rattle.registry_calls.specs.declared.error.SigstoreError.{SigstoreError}
+use Rattle.registry_calls.specs.Error.{is_memory}
+use Rattle.registry_calls.specs.Clients.{Kept, Plain, Row, Client, ClientMeets, RefusalKeeps}
+use Rattle.registry_calls.specs.Caching.{keeping, known_or, recalled, cached}
+use Rattle.registry_cache.specs.Caching.{Cache, known}
+use Rattle.registry_calls.specs.Log.{Call, DigestCall, ManifestCall, ImageCall, ReferrersCall, image_called, kind_called, key_called, answered, answering, call_made, LoggedCall, IsStep, AnyOf, IsOrigin, IsSource, HasSource, IsRun, EachBacked, IsBacked, place_of, IsLawful, Logged}
 
 -- ---- cached responses
 

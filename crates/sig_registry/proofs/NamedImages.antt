@@ -26,20 +26,20 @@ use Rattle.engine_rows.specs.Image.{layer_of, config_of, pull_layers, pull}
 use Rattle.engine_rows.specs.Manifests.{pull_image_manifest_and_list_digest}
 use Rattle.engine_rows.specs.declared.image.ImageData.{ImageData}
 use Rattle.engine_laws.proofs.BlobAnswers.{blob_shows}
-use Rattle.sig_answers.specs.Answers.{is_of, is_fresh, given_at, fits, within, keep, kind_of, as_image}
-use Rattle.sig_answers.specs.declared.answer.Answer.{Answer}
-use Rattle.sig_answers.specs.declared.answer.Answer.TheVariants.{Digest, Manifest, Image, Referrers}
-use Rattle.sig_answers.specs.declared.answers.Answers.{Answers}
-use Rattle.sig_answers.specs.declared.answers.Bounds.{Bounds}
-use Rattle.sig_answers.specs.declared.answers.Entry.{Entry}
-use Rattle.sig_calls.specs.Caching.{known}
-use Rattle.sig_calls.specs.Calls.{images}
-use Rattle.sig_calls.specs.declared.error.SigstoreError.{SigstoreError}
-use Rattle.sig_calls.specs.declared.error.SigstoreError.TheVariants as sigstore
-use Rattle.sig_calls.specs.declared.error_context.Called.{Called}
-use Rattle.sig_calls.specs.Error.{Matches}
-use Rattle.sig_calls.specs.ErrorContext.{refusal, with_error_context}
-use Rattle.sig_calls.specs.Named.{names_each, is_named, answer_named, all_named}
+use Rattle.registry_cache.specs.Answers.{is_of, is_fresh, given_at, fits, within, keep, kind_of, as_image}
+use Rattle.registry_cache.specs.declared.answer.Answer.{Answer}
+use Rattle.registry_cache.specs.declared.answer.Answer.TheVariants.{Digest, Manifest, Image, Referrers}
+use Rattle.registry_cache.specs.declared.answers.Answers.{Answers}
+use Rattle.registry_cache.specs.declared.answers.Bounds.{Bounds}
+use Rattle.registry_cache.specs.declared.answers.Entry.{Entry}
+use Rattle.registry_cache.specs.Caching.{known}
+use Rattle.registry_cache.specs.KeptCalls.{images}
+use Rattle.registry_calls.specs.declared.error.SigstoreError.{SigstoreError}
+use Rattle.registry_calls.specs.declared.error.SigstoreError.TheVariants as sigstore
+use Rattle.registry_calls.specs.declared.error_context.Called.{Called}
+use Rattle.registry_calls.specs.Error.{Matches}
+use Rattle.registry_calls.specs.ErrorContext.{refusal, with_error_context}
+use Rattle.registry_calls.specs.Named.{names_each, is_named, answer_named, all_named}
 
 -- ---- images that are pulled
 

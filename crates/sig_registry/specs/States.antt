@@ -4,10 +4,10 @@ use Rattle.oci_transport.specs.Link.{Link}
 use Rattle.oci_protocol.specs.Runs.{Meets}
 use Rattle.engine_terms.specs.declared.settings.Settings.{Settings}
 use Rattle.oci_engine.specs.declared.client.Client.{Client as Engine}
-use Rattle.sig_answers.specs.declared.answers.Answers.{Answers}
-use Rattle.sig_calls.specs.Clients.{Client, Plain}
-use Rattle.sig_calls.specs.Error.{is_memory}
-use Rattle.sig_calls.specs.declared.error.SigstoreError.{SigstoreError}
+use Rattle.registry_cache.specs.declared.answers.Answers.{Answers}
+use Rattle.registry_calls.specs.Clients.{Client, Plain}
+use Rattle.registry_calls.specs.Error.{is_memory}
+use Rattle.registry_calls.specs.declared.error.SigstoreError.{SigstoreError}
 use Rattle.sig_registry.specs.declared.caching.OciCachingClient.{OciCachingClient}
 use Rattle.sig_registry.specs.declared.plain.OciClient.{OciClient}
 use Rattle.sig_registry.specs.declared.registry_client.RegistryClient.{RegistryClient}

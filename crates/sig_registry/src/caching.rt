@@ -1,6 +1,6 @@
 // A client that caches responses.
 ghost use Rattle.std.specs.Prelude.{IsTrue};
-ghost use Rattle.sig_calls.specs.Named.{all_named};
+ghost use Rattle.registry_calls.specs.Named.{all_named};
 
 use crate::calls::{
     blob_made, digest_made, document_made, image_made, manifest_made, referrers_made,
@@ -12,12 +12,11 @@ use oci_engine::{Client, ImageData, PlatformResolver};
 use oci_manifests::{OciImageIndex, OciManifest};
 use oci_names::Reference;
 use oci_transport::Transport;
-use sig_answers::{Answers, Bounds};
-use sig_calls::{ClientCapabilities, SigstoreError};
-use sig_known::{
-    image_key, keep_digest, keep_image, keep_manifest, keep_referrers, known_digest, known_image,
-    known_manifest, known_referrers, list_key, manifest_key,
+use registry_cache::{
+    Answers, Bounds, image_key, keep_digest, keep_image, keep_manifest, keep_referrers,
+    known_digest, known_image, known_manifest, known_referrers, list_key, manifest_key,
 };
+use registry_calls::{ClientCapabilities, SigstoreError};
 use std::alloc::Global;
 
 /// A client that caches responses between its calls. A response is returned again to the same call, with no request,
@@ -33,9 +32,9 @@ pub struct OciCachingClient {
 impl OciCachingClient {
     ghost use Rattle.std.specs.Prelude.{◌≡◌, [], Some, None};
     ghost use Rattle.engine_terms.specs.declared.settings.Settings.{Settings};
-    ghost use Rattle.sig_calls.specs.Clients.{none_kept};
+    ghost use Rattle.registry_calls.specs.Clients.{none_kept};
     ghost use Rattle.sig_registry.specs.States.{engine_state, caching_state};
-    ghost use Rattle.sig_calls.specs.Log.{IsBacked};
+    ghost use Rattle.registry_calls.specs.Log.{IsBacked};
 
     /// Returns a client that caches all responses.
     pub fn new(alloc: Global, client: Client) -> OciCachingClient

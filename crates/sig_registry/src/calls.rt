@@ -4,12 +4,12 @@ ghost use Rattle.engine_terms.specs.declared.settings.Settings.{Settings};
 ghost use Rattle.engine_terms.specs.Contexts.{within};
 ghost use Rattle.engine_requests.specs.Requests.{listed};
 ghost use Rattle.engine_requests.specs.Sources.{described};
-ghost use Rattle.sig_calls.specs.Calls.{digest_made, manifest_made, image_made, document_made, blob_made};
-ghost use Rattle.sig_calls.specs.Calls.{referrers_made};
+ghost use Rattle.registry_calls.specs.Calls.{digest_made, manifest_made, image_made, document_made, blob_made};
+ghost use Rattle.registry_calls.specs.Calls.{referrers_made};
 ghost use Rattle.sig_registry.specs.States.{PlainlyMade, engine_state};
-ghost use Rattle.sig_calls.specs.Confinement.{StaysConfined, StaysWithTag};
-ghost use Rattle.sig_calls.specs.Error.{FaultCounted, NoSinkFault};
-ghost use Rattle.sig_calls.specs.Named.{is_named};
+ghost use Rattle.registry_calls.specs.Confinement.{StaysConfined, StaysWithTag};
+ghost use Rattle.registry_calls.specs.Error.{FaultCounted, NoSinkFault};
+ghost use Rattle.registry_calls.specs.Named.{is_named};
 
 use json_values::{Blob, Text};
 use oci_auth::{RegistryAuth, RegistryOperation};
@@ -18,7 +18,7 @@ use oci_engine::{Client, ImageData};
 use oci_manifests::{OciImageIndex, OciManifest};
 use oci_names::Reference;
 use oci_transport::Transport;
-use sig_calls::{Called, SigstoreError, with_error_context};
+use registry_calls::{Called, SigstoreError, with_error_context};
 use std::alloc::Global;
 
 /// Returns the digest of the image's manifest or index.

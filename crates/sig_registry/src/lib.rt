@@ -12,6 +12,8 @@ pub use caching::OciCachingClient;
 pub use certificate::{Certificate, CertificateEncoding};
 pub use config::{ClientConfig, ClientProtocol};
 pub use plain::OciClient;
+pub use registry_cache::{Auth, PullManifestSettings, PullReferrersSettings, PullSettings};
+pub use registry_calls::{
+    Called, ClientCapabilities, OciReference, SigstoreError, with_error_context,
+};
 pub use registry_client::RegistryClient;
-pub use sig_calls::{Called, ClientCapabilities, OciReference, SigstoreError, with_error_context};
-pub use sig_settings::{Auth, PullManifestSettings, PullReferrersSettings, PullSettings};

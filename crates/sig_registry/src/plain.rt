@@ -9,7 +9,7 @@ use oci_engine::{Client, ImageData, PlatformResolver};
 use oci_manifests::{OciImageIndex, OciManifest};
 use oci_names::Reference;
 use oci_transport::Transport;
-use sig_calls::{ClientCapabilities, SigstoreError};
+use registry_calls::{ClientCapabilities, SigstoreError};
 use std::alloc::Global;
 
 /// A client that caches no responses between its calls.

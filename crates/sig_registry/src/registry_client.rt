@@ -8,7 +8,7 @@ use oci_engine::{ImageData, PlatformResolver};
 use oci_manifests::{OciImageIndex, OciManifest};
 use oci_names::Reference;
 use oci_transport::Transport;
-use sig_calls::{ClientCapabilities, SigstoreError};
+use registry_calls::{ClientCapabilities, SigstoreError};
 use std::alloc::Global;
 
 /// A client of a registry, with or without a cache.
@@ -22,7 +22,7 @@ pub enum RegistryClient {
 
 impl RegistryClient {
     ghost use Rattle.std.specs.Prelude.{◌≡◌};
-    ghost use Rattle.sig_calls.specs.Clients.{now_caching};
+    ghost use Rattle.registry_calls.specs.Clients.{now_caching};
     ghost use Rattle.sig_registry.specs.States.{state_of};
 
     /// Returns the same client, which caches from now on. A client that caches already is unchanged.

@@ -5,9 +5,9 @@ use Rattle.url.specs.Parts.{Parts, serialize}
 use Rattle.url.specs.Parser.{Parsed, parse_url}
 use Rattle.json_values.specs.Refusals as Refusals
 use Rattle.json_tables.specs.Plain.{read_plain}
-use Rattle.sig_models.specs.Certificate.{signing_certificate_of}
-use Rattle.sig_models.specs.declared.certificate.SigningCertificate.{SigningCertificate}
-use Rattle.sig_models.specs.declared.certificate.SigningCertificate.TheVariants.{SignedCertificateDetachedSct, SignedCertificateEmbeddedSct}
+use Rattle.service_models.specs.Certificate.{signing_certificate_of}
+use Rattle.service_models.specs.declared.certificate.SigningCertificate.{SigningCertificate}
+use Rattle.service_models.specs.declared.certificate.SigningCertificate.TheVariants.{SignedCertificateDetachedSct, SignedCertificateEmbeddedSct}
 use Rattle.oci_transport.specs.Headers.{Fields}
 use Rattle.oci_transport.specs.Link.{Link}
 use Rattle.oci_transport.specs.declared.message.Request.{Request}

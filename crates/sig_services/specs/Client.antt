@@ -8,12 +8,12 @@ use Rattle.url.specs.Parser.{Parsed, parse_url}
 use Rattle.json_values.specs.Refusals.{◌>>=◌}
 use Rattle.json_tables.specs.Plain.{read_plain}
 use Rattle.json_tables.specs.Reading as option
-use Rattle.sig_models.specs.Certificate.{signing_certificate_of}
-use Rattle.sig_models.specs.CertificateRequest.{request_written, signing_request_written}
-use Rattle.sig_models.specs.declared.certificate_request.KeyAlgorithm.{KeyAlgorithm}
-use Rattle.sig_models.specs.declared.certificate.SigningCertificate.{SigningCertificate}
-use Rattle.sig_models.specs.declared.certificate.SigningCertificate.TheVariants.{SignedCertificateDetachedSct}
-use Rattle.sig_models.specs.declared.certificate.SigningCertificate.TheVariants.{SignedCertificateEmbeddedSct}
+use Rattle.service_models.specs.Certificate.{signing_certificate_of}
+use Rattle.service_models.specs.CertificateRequest.{request_written, signing_request_written}
+use Rattle.service_models.specs.declared.certificate_request.KeyAlgorithm.{KeyAlgorithm}
+use Rattle.service_models.specs.declared.certificate.SigningCertificate.{SigningCertificate}
+use Rattle.service_models.specs.declared.certificate.SigningCertificate.TheVariants.{SignedCertificateDetachedSct}
+use Rattle.service_models.specs.declared.certificate.SigningCertificate.TheVariants.{SignedCertificateEmbeddedSct}
 use Rattle.oci_transport.specs.Headers.{Fields}
 use Rattle.oci_transport.specs.declared.message.Request.{Request}
 use Rattle.oci_transport.specs.declared.message.Answer.{Answer}
@@ -23,7 +23,7 @@ use Rattle.oci_protocol.specs.Proto.{Done}
 use Rattle.sig_services.specs.Body.{text_body}
 use Rattle.sig_services.specs.Exchange.{Row, whole}
 use Rattle.sig_services.specs.Headers.{with_header}
-use Rattle.sig_models.specs.Token.{token_of}
+use Rattle.service_models.specs.Token.{token_of}
 use Rattle.sig_services.specs.declared.client.FulcioClient.{FulcioClient}
 use Rattle.sig_services.specs.declared.client.FulcioCert.{FulcioCert}
 use Rattle.sig_services.specs.declared.client.CertificateResponse.{CertificateResponse}

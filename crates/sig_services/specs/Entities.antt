@@ -2,8 +2,8 @@
 use Rattle.std.specs.Prelude.{Bool, true, false, option_map, unwrap_or, Option, Some, None, if◌then◌else◌}
 use Rattle.serde_json.specs.Data.{Data, Items, no_items, item}
 use Rattle.serde_json.specs.Find.{as_array}
-use Rattle.sig_models.specs.declared.error.Error.{Error}
-use Rattle.sig_models.specs.Error.{error_of}
+use Rattle.service_models.specs.declared.error.Error.{Error}
+use Rattle.service_models.specs.Error.{error_of}
 use Rattle.sig_services.specs.declared.entities.CreateLogEntryError.{CreateLogEntryError}
 use Rattle.sig_services.specs.declared.entities.CreateLogEntryError.TheVariants as create
 use Rattle.sig_services.specs.declared.entities.GetLogEntryByIndexError.{GetLogEntryByIndexError}

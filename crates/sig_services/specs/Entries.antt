@@ -3,8 +3,8 @@ use Rattle.std.specs.Prelude.{ℕ, ℤ, List, [], ◌∷◌, ◌++◌, Some, Non
 use Rattle.std.specs.Fmt.{signed_decimal}
 use Rattle.form_urlencoded.specs.Form.{byte_serialize}
 use Rattle.json_tables.specs.Plain.{read_plain}
-use Rattle.sig_models.specs.LogEntry.{log_entry_of}
-use Rattle.sig_models.specs.declared.log_entry.LogEntry.{LogEntry}
+use Rattle.service_models.specs.LogEntry.{log_entry_of}
+use Rattle.service_models.specs.declared.log_entry.LogEntry.{LogEntry}
 use Rattle.oci_transport.specs.declared.message.Method.TheVariants.{Get, Post}
 use Rattle.sig_services.specs.Exchange.{Row}
 use Rattle.sig_services.specs.Body.{text_body}

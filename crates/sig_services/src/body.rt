@@ -2,12 +2,12 @@
 ghost use Rattle.std.specs.Prelude.{◌≡◌, ℕ, List, Option, IfOk};
 ghost use Rattle.json_tables.specs.Plain.{read_plain};
 ghost use Rattle.json_tables.specs.Reading.{list_of, text_of};
-ghost use Rattle.sig_models.specs.LogEntry.{log_entry_of};
+ghost use Rattle.service_models.specs.LogEntry.{log_entry_of};
 ghost use Rattle.sig_services.specs.Body.{text_body, json_body};
 
 use json_tables::{read_plain, read_plain_json};
 use json_values::{Json, List, Text};
-use sig_models::LogEntry;
+use service_models::LogEntry;
 use std::alloc::{AllocError, Global};
 
 /// A type that is parsed from the body of a successful answer.

@@ -2,13 +2,13 @@
 ghost use Rattle.std.specs.Prelude.{◌≡◌, ◌++◌, codes, IfOk, Some, None, option_copied};
 ghost use Rattle.serde_json.specs.Written.{compact_text};
 ghost use Rattle.oci_protocol.specs.Runs.{Meets};
-ghost use Rattle.sig_models.specs.CertificateRequest.{request_written, signing_request_written};
+ghost use Rattle.service_models.specs.CertificateRequest.{request_written, signing_request_written};
 ghost use Rattle.sig_services.specs.Client.{asked, certificate_in, headers_of, joined};
 ghost use Rattle.sig_services.specs.FulcioError.{Matches, is_memory};
 ghost use Rattle.sig_services.specs.Client.{parted, request_of, response_in, response_of};
 ghost use Rattle.sig_services.specs.AuthorityCauses.{AuthorityRefusedFor};
 ghost use Rattle.sig_services.specs.Client as row;
-ghost use Rattle.sig_models.specs.Token.{token_of};
+ghost use Rattle.service_models.specs.Token.{token_of};
 
 use crate::body::Body;
 use crate::call::compact;
@@ -18,7 +18,7 @@ use crate::headers::with_header;
 use json_tables::read_plain;
 use json_values::{Blob, Copied, List, Text, ToValue, copied};
 use oci_transport::{Answer, Headers, Method, Request, Transport};
-use sig_models::{
+use service_models::{
     CertificateChain, CertificateRequest, CreateSigningCertificateRequest, KeyAlgorithm,
     SigningCertificate, SigningCertificateDetachedSCT, TokenProvider,
 };

@@ -2,7 +2,7 @@
 ghost use Rattle.std.specs.Prelude.{◌≡◌, IfOk};
 ghost use Rattle.serde_json.specs.Data.{Data};
 ghost use Rattle.serde_json.specs.View.{items_view};
-ghost use Rattle.sig_models.specs.Error.{error_of};
+ghost use Rattle.service_models.specs.Error.{error_of};
 ghost use Rattle.sig_services.specs.Entities as spec;
 
 use json_tables::read_or_none;

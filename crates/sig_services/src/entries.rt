@@ -2,9 +2,9 @@
 ghost use Rattle.std.specs.Prelude.{◌≡◌, IfOk, IsErrOf, Some, None, codes};
 ghost use Rattle.json_tables.specs.Plain.{read_plain};
 ghost use Rattle.oci_protocol.specs.Runs.{Meets};
-ghost use Rattle.sig_models.specs.LogEntry.{log_entry_of};
-ghost use Rattle.sig_models.specs.ProposedEntry.{proposed_entry_written};
-ghost use Rattle.sig_models.specs.SearchLogQuery.{query_written};
+ghost use Rattle.service_models.specs.LogEntry.{log_entry_of};
+ghost use Rattle.service_models.specs.ProposedEntry.{proposed_entry_written};
+ghost use Rattle.service_models.specs.SearchLogQuery.{query_written};
 ghost use Rattle.sig_services.specs.Error.{is_memory};
 ghost use Rattle.sig_services.specs.Call.{Posts};
 ghost use Rattle.sig_services.specs.Body.{text_body};
@@ -26,7 +26,7 @@ use itoa::Buffer;
 use json_tables::read_plain;
 use json_values::{Copied, Text, ToValue};
 use oci_transport::{Method, Transport};
-use sig_models::{LogEntry, ProposedEntry, SearchLogQuery};
+use service_models::{LogEntry, ProposedEntry, SearchLogQuery};
 use std::alloc::{AllocError, Global};
 
 /// Why a string is not an entry of the log.

@@ -4,7 +4,7 @@ ghost use Rattle.json_tables.specs.Plain.{read_plain};
 ghost use Rattle.json_tables.specs.Reading.{list_of, text_of};
 ghost use Rattle.serde_json.specs.Written.{compact_text};
 ghost use Rattle.oci_protocol.specs.Runs.{Meets};
-ghost use Rattle.sig_models.specs.SearchIndex.{search_index_written};
+ghost use Rattle.service_models.specs.SearchIndex.{search_index_written};
 ghost use Rattle.sig_services.specs.Error.{is_memory};
 ghost use Rattle.sig_services.specs.Index as row;
 ghost use Rattle.sig_services.specs.Causes.{RefusedFor};
@@ -16,7 +16,7 @@ use crate::entities::SearchIndexError;
 use crate::error::Error;
 use json_values::{Blob, List, Text, ToValue};
 use oci_transport::{Method, Transport};
-use sig_models::SearchIndex;
+use service_models::SearchIndex;
 use std::alloc::{AllocError, Global};
 
 fn search_text(alloc: Global, query: &SearchIndex) -> Result<Blob, AllocError>

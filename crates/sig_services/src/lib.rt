@@ -34,7 +34,7 @@ pub use fulcio_error::FulcioError;
 pub use index::search_index;
 pub use log::{get_log_info, get_log_proof, get_public_key};
 pub use request::urlencode;
-pub use sig_models::{
+pub use service_models::{
     CertificateChain, CreateSigningCertificateRequest, InnerDetachedSCT, KeyAlgorithm, LogEntry,
     SCTVersion, SctError, SigningCertificate, SigningCertificateDetachedSCT,
     SigningCertificateEmbeddedSCT, TokenProvider, read_sct_signature,

@@ -1,12 +1,6 @@
-//! Tests of the values, the tables that read and write members, and the canonical texts.
+//! Tests of the values, and of the tables that read and write members.
 #![tactic(auto)]
 
-#[cfg(test)]
-mod canonical;
-#[cfg(test)]
-mod events;
-#[cfg(test)]
-mod plain;
 #[cfg(test)]
 mod tables;
 #[cfg(test)]

@@ -1,9 +1,9 @@
 // Texts, bytes, lists, maps, sinks and JSON.
+use byte_streams::{MemorySink, PlainSink, Sink, SinkError, put_all};
+use json_tables::Holder;
 use json_values::{
-    Annotations, Blob, Copied, Json, List, MemorySink, PlainSink, Sink, SinkError, Text, TextSet,
-    ToValue, put_all, read_json, write_quoted,
+    Annotations, Blob, Copied, Json, List, Text, TextSet, ToValue, read_json, write_quoted,
 };
-use json_writing::Holder;
 use serde_json::Value;
 use std::alloc::{AllocError, Global};
 

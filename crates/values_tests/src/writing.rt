@@ -1,8 +1,7 @@
 // Writing members of JSON objects.
 use crate::values::holds;
-use json_tables::Reads;
+use json_tables::{Reads, Required, UnlessEmpty, Writes, object, put_field};
 use json_values::{Annotations, Json, List, Text, TextSet};
-use json_writing::{Required, UnlessEmpty, Writes, object, put_field};
 use serde_json::{Map, Value};
 use std::alloc::{AllocError, Global};
 

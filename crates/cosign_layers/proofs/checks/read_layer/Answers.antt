@@ -1,6 +1,6 @@
 use Rattle.std.proofs.Common.{sym}
 use Rattle.cosign_layers.specs.Checks.{input_from}
-use Rattle.cosign_layers.specs.Trust.{trust_of}
+use Rattle.cosign_parts.specs.Trust.{trust_of}
 use Rattle.cosign_layers.proofs.Outcomes.{wanting}
 use Rattle.cosign_layers.proofs.Steps.{no_content, no_signature, no_entry, no_certificate, all_passed}
 use Rattle.cosign_layers.proofs.checks.read_layer.Goals as goal

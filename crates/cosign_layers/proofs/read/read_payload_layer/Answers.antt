@@ -1,6 +1,6 @@
 use Rattle.cosign_layers.specs.Checks.{input}
-use Rattle.cosign_layers.specs.Trust.{trust}
-use Rattle.cosign_layers.specs.declared.layer.LayerKind.TheVariants as kinds
+use Rattle.cosign_parts.specs.Trust.{trust}
+use Rattle.cosign_parts.specs.declared.layer.LayerKind.TheVariants as kinds
 use Rattle.cosign_layers.proofs.Layers.{gives, rejects, one_outcome}
 use Rattle.cosign_layers.proofs.read.read_payload_layer.Goals as goal
 

@@ -1,6 +1,6 @@
 use Rattle.std.proofs.Common.{Ok, Err, refl}
 use Rattle.oci_names.specs.Reference.{whole_text}
-use Rattle.sig_calls.specs.declared.error_context.Called.TheVariants.{Pull}
+use Rattle.registry_calls.specs.declared.error_context.Called.TheVariants.{Pull}
 use Rattle.cosign_rows.specs.Image.{document_in}
 use Rattle.cosign_rows.proofs.Exits.{and_then, refused, worded_said, done}
 use Rattle.cosign_pull.proofs.pull.after_document.Goals as goal

@@ -1,5 +1,5 @@
 use Rattle.oci_names.specs.Reference.{whole_text}
-use Rattle.sig_calls.specs.declared.error_context.Called.TheVariants.{Pull}
+use Rattle.registry_calls.specs.declared.error_context.Called.TheVariants.{Pull}
 use Rattle.cosign_rows.proofs.Exits.{in_words_said}
 use Rattle.cosign_pull.proofs.pull.entry_of.Goals as goal
 

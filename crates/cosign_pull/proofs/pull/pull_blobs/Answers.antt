@@ -1,7 +1,7 @@
 use Rattle.std.proofs.Common.{Ok, Err, refl}
 use Rattle.oci_names.specs.Reference.{whole_text}
 use Rattle.engine_rows.specs.Image.{layers_accepted}
-use Rattle.sig_calls.specs.declared.error_context.Called.TheVariants.{Pull}
+use Rattle.registry_calls.specs.declared.error_context.Called.TheVariants.{Pull}
 use Rattle.cosign_rows.specs.Image.{blobs_row}
 use Rattle.cosign_rows.proofs.Exits.{and_then, refused, wanting, worded_said, done}
 use Rattle.cosign_pull.proofs.pull.pull_blobs.Goals as goal

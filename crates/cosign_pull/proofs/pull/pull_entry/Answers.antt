@@ -1,8 +1,8 @@
 use Rattle.std.proofs.Common.{Ok, Err, refl}
 use Rattle.oci_names.specs.Reference.{whole_text}
 use Rattle.engine_answers.specs.Index.{entry_found}
-use Rattle.sig_calls.specs.ErrorContext.{with_error_context}
-use Rattle.sig_calls.specs.declared.error_context.Called.TheVariants.{Pull}
+use Rattle.registry_calls.specs.ErrorContext.{with_error_context}
+use Rattle.registry_calls.specs.declared.error_context.Called.TheVariants.{Pull}
 use Rattle.cosign_rows.specs.Image.{entry_in, entry_row}
 use Rattle.cosign_rows.proofs.Exits.{and_then, refused, worded_said, said_at, done}
 use Rattle.cosign_pull.proofs.pull.pull_entry.Goals as goal

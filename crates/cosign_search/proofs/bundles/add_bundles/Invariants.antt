@@ -1,5 +1,5 @@
 use Rattle.std.proofs.Common.{◌≡◌, drop}
-use Rattle.cosign_layers.specs.Trust.{trust_of}
+use Rattle.cosign_parts.specs.Trust.{trust_of}
 use Rattle.cosign_rows.specs.Part.{appended, bundles_part}
 use Rattle.cosign_search.proofs.bundles.add_bundles.Given as goal
 

@@ -1,7 +1,7 @@
 use Rattle.std.proofs.Common.{drop}
 use Rattle.engine_terms.specs.Contexts.{within}
 use Rattle.engine_terms.specs.declared.settings.Settings.{Settings}
-use Rattle.cosign_layers.specs.Trust.{trust_of}
+use Rattle.cosign_parts.specs.Trust.{trust_of}
 use Rattle.cosign_rows.specs.Search.{referrers_row}
 use Rattle.cosign_rows.proofs.Leads.{Leads}
 use Rattle.cosign_search.specs.Gathered.{gathered}

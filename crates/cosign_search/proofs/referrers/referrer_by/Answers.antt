@@ -1,5 +1,5 @@
 use Rattle.std.proofs.Common.{refl, sym, ◌∙◌}
-use Rattle.cosign_layers.specs.Trust.{trust_of}
+use Rattle.cosign_parts.specs.Trust.{trust_of}
 use Rattle.oci_protocol.specs.Proto.{bind}
 use Rattle.cosign_rows.specs.Search.{or_skipped, referrer_part}
 use Rattle.cosign_rows.specs.declared.found.Skipped.TheVariants.{Referrer}

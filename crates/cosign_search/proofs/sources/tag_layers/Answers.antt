@@ -1,5 +1,5 @@
 use Rattle.std.proofs.Common.{refl}
-use Rattle.cosign_layers.specs.Trust.{trust_of}
+use Rattle.cosign_parts.specs.Trust.{trust_of}
 use Rattle.cosign_rows.specs.Search.{document_part, pulled_part, tag_layers}
 use Rattle.cosign_rows.proofs.Exits.{and_then, refused, wanting, said_next}
 use Rattle.cosign_search.proofs.sources.tag_layers.Goals as goal

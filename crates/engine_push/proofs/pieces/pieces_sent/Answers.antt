@@ -1,5 +1,5 @@
 use Rattle.std.proofs.Common.{inl, [], ap, arith, length, refl, ◌∙◌, ◌++◌}
-use Rattle.pull_edge.proofs.Springs.{Consumes-then}
+use Rattle.byte_streams.proofs.Springs.{Consumes-then}
 use Rattle.engine_steps.proofs.HelperTrees.{not_ok}
 use Rattle.engine_push.proofs.Carried.{carries_front, front_behind_more}
 use Rattle.engine_push.proofs.Endings.{chunks_told}

@@ -1,5 +1,5 @@
 use Rattle.std.proofs.Common.{sym, ◌∙◌, subst, []}
-use Rattle.live_frames.specs.Writing.{frame_text}
+use Rattle.live_link.specs.Writing.{frame_text}
 use Rattle.live_link.specs.Asking.{Asks, Sends}
 use Rattle.live_link.proofs.Laws.{no_breach}
 use Rattle.live_link.proofs.asking.ask_request.Goals as goal

@@ -1,5 +1,5 @@
 use Rattle.std.proofs.Common.{◌∙◌}
-use Rattle.sig_calls.specs.Direct.{reference_in}
+use Rattle.registry_calls.specs.Direct.{reference_in}
 use Rattle.cosign_client.specs.State.{client_state}
 use Rattle.pull_generated.proofs.Calls.{wanting, wanting_gives, ran, gives_image}
 use Rattle.pull_generated.proofs.call.pulled.Goals as goal

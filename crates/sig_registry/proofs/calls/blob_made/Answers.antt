@@ -3,8 +3,8 @@ use Rattle.oci_engine.specs.Refusals.{BlobRefused}
 use Rattle.engine_rows.specs.Pulls.{held_blob}
 use Rattle.engine_terms.specs.Contexts.{within}
 use Rattle.engine_requests.specs.Sources.{described}
-use Rattle.sig_calls.specs.Calls.{blob_made}
-use Rattle.sig_calls.specs.declared.error_context.Called.TheVariants.{Pull}
+use Rattle.registry_calls.specs.Calls.{blob_made}
+use Rattle.registry_calls.specs.declared.error_context.Called.TheVariants.{Pull}
 use Rattle.sig_registry.proofs.InWords.{made, worded_fault, worded_no_sink}
 use Rattle.sig_registry.proofs.calls.blob_made.Goals as goal
 

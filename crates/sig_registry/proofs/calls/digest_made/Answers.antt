@@ -1,8 +1,8 @@
 use Rattle.oci_engine.specs.Refusals.{DigestRefused}
 use Rattle.engine_rows.specs.Pulls.{fetch_manifest_digest}
 use Rattle.engine_terms.specs.Contexts.{within}
-use Rattle.sig_calls.specs.Calls.{digest_made}
-use Rattle.sig_calls.specs.declared.error_context.Called.TheVariants.{FetchManifest}
+use Rattle.registry_calls.specs.Calls.{digest_made}
+use Rattle.registry_calls.specs.declared.error_context.Called.TheVariants.{FetchManifest}
 use Rattle.sig_registry.proofs.InWords.{made, worded_fault, worded_no_sink}
 use Rattle.sig_registry.proofs.calls.digest_made.Goals as goal
 

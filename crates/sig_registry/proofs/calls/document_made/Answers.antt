@@ -2,8 +2,8 @@ use Rattle.oci_engine.specs.Refusals.{DocumentRefused}
 use Rattle.engine_rows.specs.Pulls.{pull_manifest_raw}
 use Rattle.engine_requests.specs.Requests.{listed}
 use Rattle.engine_terms.specs.Contexts.{within}
-use Rattle.sig_calls.specs.Calls.{document_made}
-use Rattle.sig_calls.specs.declared.error_context.Called.TheVariants.{Pull}
+use Rattle.registry_calls.specs.Calls.{document_made}
+use Rattle.registry_calls.specs.declared.error_context.Called.TheVariants.{Pull}
 use Rattle.sig_registry.proofs.InWords.{made, worded_fault, worded_no_sink}
 use Rattle.sig_registry.proofs.calls.document_made.Goals as goal
 

@@ -1,8 +1,8 @@
 use Rattle.oci_engine.specs.Refusals.{PullRefused}
 use Rattle.engine_rows.specs.Image.{pull}
 use Rattle.engine_terms.specs.Contexts.{within}
-use Rattle.sig_calls.specs.Calls.{image_made}
-use Rattle.sig_calls.specs.declared.error_context.Called.TheVariants.{Pull}
+use Rattle.registry_calls.specs.Calls.{image_made}
+use Rattle.registry_calls.specs.declared.error_context.Called.TheVariants.{Pull}
 use Rattle.sig_registry.proofs.InWords.{made, worded_fault, worded_no_sink}
 use Rattle.sig_registry.proofs.NamedImages.{pulled_named}
 use Rattle.sig_registry.proofs.calls.image_made.Goals as goal

@@ -1,8 +1,8 @@
 use Rattle.oci_engine.specs.Refusals.{ManifestRefused}
 use Rattle.engine_rows.specs.Pulls.{pull_manifest}
 use Rattle.engine_terms.specs.Contexts.{within}
-use Rattle.sig_calls.specs.Calls.{manifest_made}
-use Rattle.sig_calls.specs.declared.error_context.Called.TheVariants.{PullManifest}
+use Rattle.registry_calls.specs.Calls.{manifest_made}
+use Rattle.registry_calls.specs.declared.error_context.Called.TheVariants.{PullManifest}
 use Rattle.sig_registry.proofs.InWords.{made, worded_fault, worded_no_sink}
 use Rattle.sig_registry.proofs.calls.manifest_made.Goals as goal
 

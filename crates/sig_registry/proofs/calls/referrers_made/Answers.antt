@@ -2,14 +2,14 @@ use Rattle.std.specs.Prelude.{option_copied}
 use Rattle.oci_auth.specs.declared.token_type.RegistryOperation.TheVariants as operation
 use Rattle.oci_names.specs.Reference.{whole_text}
 use Rattle.oci_engine.specs.Refusals.{ReferrersRefused}
-use Rattle.engine_laws.specs.TokenCauses.{TokenCause}
+use Rattle.engine_rows.specs.TokenCauses.{TokenCause}
 use Rattle.engine_laws.proofs.ReferrersCauses.{referrers_no_sink}
-use Rattle.engine_laws.specs.Held.{pulling}
+use Rattle.engine_rows.specs.Held.{pulling}
 use Rattle.engine_rows.specs.Rows.{token_given}
 use Rattle.engine_rows.specs.Referrers.{pull_referrers}
 use Rattle.engine_terms.specs.Contexts.{within}
-use Rattle.sig_calls.specs.Calls.{referrers_made}
-use Rattle.sig_calls.specs.declared.error_context.Called.TheVariants.{FetchManifest, PullManifest}
+use Rattle.registry_calls.specs.Calls.{referrers_made}
+use Rattle.registry_calls.specs.declared.error_context.Called.TheVariants.{FetchManifest, PullManifest}
 use Rattle.sig_registry.proofs.InWords.{made, worded_fault, worded_no_sink}
 use Rattle.sig_registry.proofs.InTurn.{made_refused, made_next, refused_fault, refused_no_sink, worded_ok, rose_in_second, first_confined, both_confined}
 use Rattle.sig_registry.proofs.calls.referrers_made.Goals as goal

@@ -1,7 +1,7 @@
 use Rattle.std.proofs.Common.{refl, inl, inr, Some, None, codes}
 use Rattle.json_tables.specs.Plain.{read_plain}
-use Rattle.sig_models.specs.LogEntry.{log_entry_of}
-use Rattle.sig_models.specs.ProposedEntry.{proposed_entry_written}
+use Rattle.service_models.specs.LogEntry.{log_entry_of}
+use Rattle.service_models.specs.ProposedEntry.{proposed_entry_written}
 use Rattle.oci_transport.specs.declared.message.Method.TheVariants.{Post}
 use Rattle.sig_services.specs.Entities.{create_error}
 use Rattle.sig_services.proofs.Exits.{wanting, wanted}

@@ -1,6 +1,6 @@
 use Rattle.std.proofs.Common.{◌≡◌, refl, None, to_z-of_z, to_z, of_z, w32, arith}
 use Rattle.json_tables.specs.Plain.{read_plain}
-use Rattle.sig_models.specs.LogEntry.{log_entry_of}
+use Rattle.service_models.specs.LogEntry.{log_entry_of}
 use Rattle.sig_services.specs.Entries.{index_path}
 use Rattle.oci_transport.specs.declared.message.Method.TheVariants.{Get}
 use Rattle.sig_services.specs.Entities.{by_index_error}

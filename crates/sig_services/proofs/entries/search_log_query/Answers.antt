@@ -1,6 +1,6 @@
 use Rattle.std.proofs.Common.{refl, inl, inr, Some, None, codes}
 use Rattle.sig_services.specs.Body.{text_body}
-use Rattle.sig_models.specs.SearchLogQuery.{query_written}
+use Rattle.service_models.specs.SearchLogQuery.{query_written}
 use Rattle.oci_transport.specs.declared.message.Method.TheVariants.{Post}
 use Rattle.sig_services.specs.Entities.{search_log_error}
 use Rattle.sig_services.proofs.Exits.{wanting, wanted}

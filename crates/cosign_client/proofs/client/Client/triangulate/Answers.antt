@@ -1,7 +1,7 @@
 use Rattle.std.proofs.Common.{refl, ap}
 use Rattle.engine_terms.specs.Contexts.{within}
-use Rattle.sig_settings.specs.Auths.{registry_auth}
-use Rattle.sig_calls.specs.Direct.{reference_in}
+use Rattle.registry_cache.specs.Auths.{registry_auth}
+use Rattle.registry_calls.specs.Direct.{reference_in}
 use Rattle.cosign_client.specs.State.{client_state}
 use Rattle.cosign_rows.specs.Triangulated.{triangulated}
 use Rattle.cosign_laws.proofs.Confinement.{triangulated_confined}

@@ -2,8 +2,8 @@ use Rattle.std.proofs.Common.{refl}
 use Rattle.engine_terms.specs.Contexts.{within}
 use Rattle.cosign_client.specs.State.{client_state, trusts}
 use Rattle.cosign_rows.proofs.Exits.{meets_wanting}
-use Rattle.sig_settings.specs.Auths.{registry_auth}
-use Rattle.sig_calls.specs.Direct.{reference_in}
+use Rattle.registry_cache.specs.Auths.{registry_auth}
+use Rattle.registry_calls.specs.Direct.{reference_in}
 use Rattle.cosign_laws.proofs.Causes.{search_cause}
 use Rattle.cosign_laws.proofs.Confinement.{search_confined}
 use Rattle.cosign_laws.proofs.DigestStep.{search_decided}

@@ -1,7 +1,7 @@
 use Rattle.std.proofs.Common.{refl}
 use Rattle.engine_terms.specs.Contexts.{within}
-use Rattle.sig_settings.specs.Auths.{registry_auth}
-use Rattle.sig_calls.specs.Direct.{reference_in}
+use Rattle.registry_cache.specs.Auths.{registry_auth}
+use Rattle.registry_calls.specs.Direct.{reference_in}
 use Rattle.cosign_layers.specs.Satisfying.{PolicyContext, policy_context}
 use Rattle.cosign_client.specs.State.{client_state, trusts}
 use Rattle.cosign_laws.proofs.Causes.{pull_cause}

@@ -1,6 +1,6 @@
 use Rattle.json_tables.specs.Reading.{text_of, map_of}
 use Rattle.json_tables.specs.Objects.{set_of}
-use Rattle.json_writing.proofs.Whole.{option_member}
+use Rattle.json_tables.proofs.Whole.{option_member}
 use Rattle.oci_config.proofs.Parts.{list_unless, option_unless}
 use Rattle.oci_config.specs.Config.{some_list, some_map}
 use Rattle.oci_config.proofs.Again.{config_again}

@@ -1,6 +1,6 @@
 use Rattle.json_tables.specs.Reading.{text_of, bool_of}
-use Rattle.json_writing.proofs.Whole.{option_member}
-use Rattle.oci_times.specs.Reader.{time_of}
+use Rattle.json_tables.proofs.Whole.{option_member}
+use Rattle.oci_config.specs.Reader.{time_of}
 use Rattle.oci_config.proofs.Again.{history_again}
 use Rattle.oci_config.proofs.history.HistoryWrites.write_value.Goals as goal
 

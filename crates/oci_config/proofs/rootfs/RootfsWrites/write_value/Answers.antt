@@ -1,5 +1,5 @@
 use Rattle.json_tables.specs.Reading.{text_of}
-use Rattle.json_writing.proofs.Whole.{list_member}
+use Rattle.json_tables.proofs.Whole.{list_member}
 use Rattle.oci_config.proofs.Again.{rootfs_again}
 use Rattle.oci_config.proofs.rootfs.RootfsWrites.write_value.Goals as goal
 

@@ -1,5 +1,5 @@
 use Rattle.json_tables.specs.Reading.{text_of, map_of}
-use Rattle.json_writing.proofs.Whole.{option_member}
+use Rattle.json_tables.proofs.Whole.{option_member}
 use Rattle.oci_descriptors.specs.Platform.{platform_of}
 use Rattle.oci_descriptors.proofs.MembersAgain.{entry_again}
 use Rattle.oci_descriptors.proofs.index_entry.ImageIndexEntryWrites.write_value.Goals as goal

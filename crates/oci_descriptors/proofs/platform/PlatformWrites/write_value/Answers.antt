@@ -1,5 +1,5 @@
 use Rattle.json_tables.specs.Reading.{text_of}
-use Rattle.json_writing.proofs.Whole.{list_option, option_member}
+use Rattle.json_tables.proofs.Whole.{list_option, option_member}
 use Rattle.oci_descriptors.proofs.MembersAgain.{platform_again}
 use Rattle.oci_descriptors.proofs.platform.PlatformWrites.write_value.Goals as goal
 

@@ -1,4 +1,4 @@
-use Rattle.json_writing.proofs.Whole.{document_again}
+use Rattle.json_tables.proofs.Whole.{document_again}
 use Rattle.oci_errors.specs.Envelope.{envelope_of, envelope_written}
 use Rattle.oci_errors.proofs.Errors.{envelope_again}
 use Rattle.oci_errors.proofs.envelope.OciEnvelopeToValue.to_value.Goals as goal

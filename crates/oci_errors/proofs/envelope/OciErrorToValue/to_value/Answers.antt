@@ -1,4 +1,4 @@
-use Rattle.json_writing.proofs.Whole.{document_again}
+use Rattle.json_tables.proofs.Whole.{document_again}
 use Rattle.oci_errors.specs.Envelope.{error_of}
 use Rattle.oci_errors.proofs.envelope.OciErrorToValue.to_value.Goals as goal
 

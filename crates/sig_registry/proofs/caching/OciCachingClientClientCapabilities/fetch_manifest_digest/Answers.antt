@@ -1,10 +1,11 @@
 use Rattle.std.proofs.Common.{◌∙◌, refl, sym}
 use Rattle.engine_terms.specs.Contexts.{within}
-use Rattle.sig_calls.specs.Calls.{digests, digest_made, digest_call}
-use Rattle.sig_calls.specs.Log.{DigestCall}
+use Rattle.registry_calls.specs.Calls.{digest_made, digest_call}
+use Rattle.registry_cache.specs.KeptCalls.{digests}
+use Rattle.registry_calls.specs.Log.{DigestCall}
 use Rattle.sig_registry.proofs.Facts.{digests_kept, absent, uncached, recalls, refuses, cuts, keeps, memory_holds_none, same_held, stays_same}
-use Rattle.sig_answers.specs.Answers.{entry}
-use Rattle.sig_answers.specs.declared.answer.Answer.TheVariants.{Digest}
+use Rattle.registry_cache.specs.Answers.{entry}
+use Rattle.registry_cache.specs.declared.answer.Answer.TheVariants.{Digest}
 use Rattle.sig_registry.proofs.NamedImages.{kept_named}
 use Rattle.sig_registry.proofs.caching.OciCachingClientClientCapabilities.fetch_manifest_digest.Goals as goal
 

@@ -1,11 +1,12 @@
 use Rattle.std.proofs.Common.{◌∙◌, refl, sym}
 use Rattle.engine_terms.specs.Contexts.{within}
-use Rattle.sig_calls.specs.Calls.{images, image_made, image_call}
-use Rattle.sig_calls.specs.Log.{ImageCall}
+use Rattle.registry_calls.specs.Calls.{image_made, image_call}
+use Rattle.registry_cache.specs.KeptCalls.{images}
+use Rattle.registry_calls.specs.Log.{ImageCall}
 use Rattle.sig_registry.proofs.Facts.{images_kept, absent, uncached, recalls, refuses, cuts, keeps, memory_holds_none, same_held, stays_same}
 use Rattle.sig_registry.proofs.NamedImages.{kept_named, known_named, refused_named}
-use Rattle.sig_answers.specs.Answers.{entry}
-use Rattle.sig_answers.specs.declared.answer.Answer.TheVariants.{Image}
+use Rattle.registry_cache.specs.Answers.{entry}
+use Rattle.registry_cache.specs.declared.answer.Answer.TheVariants.{Image}
 use Rattle.sig_registry.proofs.caching.OciCachingClientClientCapabilities.pull.Goals as goal
 
 pub returns-in_err-found : goal.returns-in_err-found

@@ -1,10 +1,11 @@
 use Rattle.std.proofs.Common.{◌∙◌, refl, sym}
 use Rattle.engine_terms.specs.Contexts.{within}
-use Rattle.sig_calls.specs.Calls.{manifests, manifest_made, manifest_call}
-use Rattle.sig_calls.specs.Log.{ManifestCall}
+use Rattle.registry_calls.specs.Calls.{manifest_made, manifest_call}
+use Rattle.registry_cache.specs.KeptCalls.{manifests}
+use Rattle.registry_calls.specs.Log.{ManifestCall}
 use Rattle.sig_registry.proofs.Facts.{manifests_kept, absent, uncached, recalls, refuses, cuts, keeps, memory_holds_none, same_held, stays_same}
-use Rattle.sig_answers.specs.Answers.{entry}
-use Rattle.sig_answers.specs.declared.answer.Answer.TheVariants.{Manifest}
+use Rattle.registry_cache.specs.Answers.{entry}
+use Rattle.registry_cache.specs.declared.answer.Answer.TheVariants.{Manifest}
 use Rattle.sig_registry.proofs.NamedImages.{kept_named}
 use Rattle.sig_registry.proofs.caching.OciCachingClientClientCapabilities.pull_manifest.Goals as goal
 

@@ -1,11 +1,12 @@
 use Rattle.std.proofs.Common.{◌∙◌, refl, sym}
 use Rattle.std.specs.Prelude.{option_copied}
 use Rattle.engine_terms.specs.Contexts.{within}
-use Rattle.sig_calls.specs.Calls.{referrers, referrers_made, referrers_call}
-use Rattle.sig_calls.specs.Log.{ReferrersCall}
+use Rattle.registry_calls.specs.Calls.{referrers_made, referrers_call}
+use Rattle.registry_cache.specs.KeptCalls.{referrers}
+use Rattle.registry_calls.specs.Log.{ReferrersCall}
 use Rattle.sig_registry.proofs.Facts.{referrers_kept, absent, uncached, recalls, refuses, cuts, keeps, memory_holds_none, same_held, tag_same}
-use Rattle.sig_answers.specs.Answers.{entry}
-use Rattle.sig_answers.specs.declared.answer.Answer.TheVariants.{Referrers}
+use Rattle.registry_cache.specs.Answers.{entry}
+use Rattle.registry_cache.specs.declared.answer.Answer.TheVariants.{Referrers}
 use Rattle.sig_registry.proofs.NamedImages.{kept_named}
 use Rattle.sig_registry.proofs.caching.OciCachingClientClientCapabilities.pull_referrers.Goals as goal
 

@@ -1,7 +1,8 @@
 use Rattle.std.specs.Prelude.{refl}
 use Rattle.engine_terms.specs.Contexts.{within}
-use Rattle.sig_calls.specs.Calls.{digests, digest_made, digest_call}
-use Rattle.sig_calls.specs.Log.{DigestCall}
+use Rattle.registry_calls.specs.Calls.{digest_made, digest_call}
+use Rattle.registry_cache.specs.KeptCalls.{digests}
+use Rattle.registry_calls.specs.Log.{DigestCall}
 use Rattle.sig_registry.proofs.Facts.{digests_kept, plainly}
 use Rattle.sig_registry.proofs.plain.OciClientClientCapabilities.fetch_manifest_digest.Goals as goal
 

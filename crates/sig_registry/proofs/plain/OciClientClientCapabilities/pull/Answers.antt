@@ -1,7 +1,8 @@
 use Rattle.std.specs.Prelude.{refl}
 use Rattle.engine_terms.specs.Contexts.{within}
-use Rattle.sig_calls.specs.Calls.{images, image_made, image_call}
-use Rattle.sig_calls.specs.Log.{ImageCall}
+use Rattle.registry_calls.specs.Calls.{image_made, image_call}
+use Rattle.registry_cache.specs.KeptCalls.{images}
+use Rattle.registry_calls.specs.Log.{ImageCall}
 use Rattle.sig_registry.proofs.Facts.{images_kept, plainly}
 use Rattle.sig_registry.proofs.plain.OciClientClientCapabilities.pull.Goals as goal
 

@@ -1,7 +1,8 @@
 use Rattle.std.specs.Prelude.{refl}
 use Rattle.engine_terms.specs.Contexts.{within}
-use Rattle.sig_calls.specs.Calls.{manifests, manifest_made, manifest_call}
-use Rattle.sig_calls.specs.Log.{ManifestCall}
+use Rattle.registry_calls.specs.Calls.{manifest_made, manifest_call}
+use Rattle.registry_cache.specs.KeptCalls.{manifests}
+use Rattle.registry_calls.specs.Log.{ManifestCall}
 use Rattle.sig_registry.proofs.Facts.{manifests_kept, plainly}
 use Rattle.sig_registry.proofs.plain.OciClientClientCapabilities.pull_manifest.Goals as goal
 

@@ -1,5 +1,5 @@
 use Rattle.std.specs.Prelude.{refl}
-use Rattle.sig_calls.specs.Calls.{document_call}
+use Rattle.registry_calls.specs.Calls.{document_call}
 use Rattle.sig_registry.proofs.Facts.{never_kept}
 use Rattle.sig_registry.proofs.plain.OciClientClientCapabilities.pull_manifest_raw.Goals as goal
 

@@ -1,7 +1,8 @@
 use Rattle.std.specs.Prelude.{refl, option_copied}
 use Rattle.engine_terms.specs.Contexts.{within}
-use Rattle.sig_calls.specs.Calls.{referrers, referrers_made, referrers_call}
-use Rattle.sig_calls.specs.Log.{ReferrersCall}
+use Rattle.registry_calls.specs.Calls.{referrers_made, referrers_call}
+use Rattle.registry_cache.specs.KeptCalls.{referrers}
+use Rattle.registry_calls.specs.Log.{ReferrersCall}
 use Rattle.sig_registry.proofs.Facts.{referrers_kept, plainly}
 use Rattle.sig_registry.proofs.plain.OciClientClientCapabilities.pull_referrers.Goals as goal
 

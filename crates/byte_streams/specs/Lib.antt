@@ -1,0 +1,9 @@
+pub mod Constants
+pub mod MemorySource
+pub mod PlainSource
+pub mod Reading
+pub mod SinkState
+pub mod Sinks
+pub mod Source
+pub mod StdSink
+pub mod StdSource

@@ -1,0 +1,5 @@
+pub mod Decimals
+pub mod Ranges
+pub mod Rows
+pub mod Shows
+pub mod Texts

@@ -1,0 +1,11 @@
+pub mod Bundle
+pub mod Constants
+pub mod Envelope
+pub mod Items
+pub mod Judge
+pub mod Layer
+pub mod LogEntry
+pub mod Payload
+pub mod Shown
+pub mod Trust
+pub mod Verifier

@@ -1,2 +1,0 @@
-pub mod Bundle
-pub mod Ways

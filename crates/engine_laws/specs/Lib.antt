@@ -1,6 +1,0 @@
-pub mod Answered
-pub mod Causes
-pub mod Confined
-pub mod Held
-pub mod Referrers
-pub mod TokenCauses

@@ -1,4 +1,0 @@
-pub mod Lists
-pub mod Entries
-pub mod Members
-pub mod Whole

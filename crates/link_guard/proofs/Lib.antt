@@ -1,4 +1,0 @@
-pub mod GuardKnowledge
-pub mod Lists
-pub mod Steps
-pub mod Told

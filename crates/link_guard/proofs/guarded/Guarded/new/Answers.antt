@@ -1,6 +1,0 @@
-use Rattle.std.proofs.Common.{refl, false, None}
-use Rattle.link_guard.proofs.Steps.{new_told}
-use Rattle.link_guard.proofs.guarded.Guarded.new.Goals as goal
-
-pub returns-clause-told : goal.returns-clause-told
-returns-clause-told g c = new_told (record { transport = c.args.transport; rules = c.args.rules; unsent = c.new.result; since = 0; lost = false; closed = false; realm = None }) _ c.requires.fresh c.new.ensures refl refl refl

@@ -1,3 +1,0 @@
-pub mod Guard
-pub mod Rules
-pub mod State

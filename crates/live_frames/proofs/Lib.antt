@@ -1,2 +1,0 @@
-pub mod FrameParts
-pub mod TakenBytes

@@ -1,0 +1,75 @@
+-- A live pull: the settings, the search, the host's answers, the pull, and what is sent.
+use Rattle.std.specs.Prelude.{◌≡◌, true, false, List, [], None, Result, Ok, Err}
+use Rattle.serde_json.specs.Data.{Data}
+use Rattle.oci_names.specs.Reference.{reference_of}
+use Rattle.oci_names.specs.declared.reference.Reference.{Reference}
+use Rattle.registry_calls.specs.Clients.{Kept}
+use Rattle.cosign_parts.specs.declared.layer.SignatureLayer.{SignatureLayer}
+use Rattle.cosign_chain.specs.declared.image.VerifiedImage.{VerifiedImage}
+use Rattle.cosign_rows.specs.Refusal.{is_memory}
+use Rattle.cosign_rows.specs.declared.refusal.PullRefusal.{PullRefusal}
+use Rattle.live_host.specs.HostErrors.{IsBroken, IsUnwritten}
+use Rattle.live_host.specs.Heads.{begin_head}
+use Rattle.live_host.specs.Questions.{WereAsked}
+use Rattle.live_host.specs.Wire.{Wire, SendsAndReceives, SendsFrame, ReceivesFrame}
+use Rattle.live_host.specs.declared.answers.Answers.{Answers}
+use Rattle.cosign_client.specs.Clients.{fresh}
+use Rattle.live_pull.specs.Pulls.{Collects, Transfer, context_of, meaning_of, search_row, pull_row}
+use Rattle.live_pull.specs.Refusals.{OutcomeTold}
+use Rattle.live_pull.specs.Settings.{settings_of}
+use Rattle.live_pull.specs.Justified.{Confined, Justified}
+use Rattle.live_pull.specs.declared.settings.LiveSettings.{LiveSettings}
+use Rattle.live_pull.specs.declared.status.Status.{Status}
+use Rattle.live_pull.specs.declared.status.Status.TheVariants as status
+
+-- What was done by these settings, from one state of the streams to another: layers were searched; the host was asked
+-- about them; the image was pulled under its answers, by the same client; and the result was sent. An image has its
+-- chain under the host's answers and comes from what was received, an error has its cause, and both calls are confined.
+pub record Live (settings : LiveSettings) (r : Result VerifiedImage PullRefusal) (old new : Wire) : Type 0 where
+  pub image : Reference
+  pub reads : reference_of settings.reference ≡ Ok image
+  pub searched : Wire
+  pub kept : Kept
+  pub layers : List SignatureLayer
+  pub search : Collects (search_row settings image) old searched (fresh true) kept layers
+  pub search_confined : Confined (context_of settings) image settings.auth (fresh true) kept old searched
+  pub asked : Wire
+  pub answers : Answers
+  pub questions : WereAsked answers.list searched asked
+  pub pulled : Wire
+  pub left : Kept
+  pub pull : Transfer (pull_row settings answers image) asked pulled kept left r
+  pub founded : Justified (meaning_of settings answers) (context_of settings) image settings.auth settings.accepted
+      kept left r asked pulled
+  pub confined : Confined (context_of settings) image settings.auth kept left asked pulled
+  pub given : OutcomeTold settings.blobs r pulled new
+
+-- by the status; out of memory guarantees nothing
+abbrev pub Ends : (Result VerifiedImage PullRefusal → Type 0) → Status → Wire → Type 0
+Ends P status.Pulled new = (v : VerifiedImage) × P (Ok v)
+Ends P status.Refused new = (e : PullRefusal) × (is_memory e ≡ false) × P (Err e)
+Ends P status.UnreadableSettings new = ⊥
+Ends P status.HostBroken new = IsBroken new
+Ends P status.SinkFault new = IsUnwritten new
+Ends P status.WantOfMemory new = Unit {0}
+
+-- a frame was received that parses as these settings
+abbrev pub Begins : LiveSettings → Wire → Wire → Type 0
+Begins settings old new = SendsAndReceives begin_head [] settings_of settings old new
+
+-- a frame was received that is not settings
+pub record NoSettings (old new : Wire) : Type 0 where
+  pub between : Wire
+  pub told : SendsFrame begin_head [] old between
+  pub frame : Data
+  pub heard : ReceivesFrame frame between new
+  pub unread : settings_of frame ≡ None
+
+-- what was done with a host
+abbrev pub Lives : Result VerifiedImage PullRefusal → Wire → Wire → Type 0
+Lives r old new = (settings : LiveSettings) × (begun : Wire) × Begins settings old begun × Live settings r begun new
+
+-- what a status means
+abbrev pub StatusMeans : Status → Wire → Wire → Type 0
+StatusMeans status.UnreadableSettings old new = NoSettings old new
+StatusMeans other old new = Ends (λ r. Lives r old new) other new

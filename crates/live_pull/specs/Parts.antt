@@ -1,0 +1,105 @@
+-- The parts of a live pull.
+use Rattle.std.specs.Prelude.{◌≡◌, ℕ, Bool, true, false, List, Some, None, Result, Ok, Err}
+use Rattle.std.specs.FinMap.{FinMap}
+use Rattle.serde_json.specs.Data.{Data}
+use Rattle.json_values.specs.Places.{by_bytes}
+use Rattle.oci_names.specs.Reference.{reference_of}
+use Rattle.engine_terms.specs.Contexts.{within}
+use Rattle.engine_terms.specs.declared.settings.Settings.{Settings}
+use Rattle.registry_calls.specs.Clients.{Kept, Row}
+use Rattle.registry_cache.specs.Auths.{registry_auth}
+use Rattle.registry_calls.specs.Direct.{reference_in}
+use Rattle.cosign_parts.specs.declared.layer.SignatureLayer.{SignatureLayer}
+use Rattle.cosign_chain.specs.declared.image.VerifiedImage.{VerifiedImage}
+use Rattle.cosign_rows.specs.Refusal.{is_memory}
+use Rattle.cosign_rows.specs.Search.{searched}
+use Rattle.cosign_client.specs.State.{client_state}
+use Rattle.cosign_rows.specs.Verified.{Whole}
+use Rattle.cosign_rows.specs.declared.found.TrustedLayers.{TrustedLayers}
+use Rattle.cosign_rows.specs.declared.refusal.PullRefusal.{PullRefusal}
+use Rattle.live_host.specs.Everyone.{everyone}
+use Rattle.live_host.specs.HostErrors.{IsBroken, IsUnwritten}
+use Rattle.live_host.specs.Questions.{WereAsked}
+use Rattle.live_host.specs.Wire.{Wire}
+use Rattle.live_host.specs.declared.answers.Answers.{Answers}
+use Rattle.recorded_case.specs.Policy.{constraints_by}
+use Rattle.live_pull.specs.Live.{NoSettings}
+use Rattle.cosign_client.specs.Clients.{fresh}
+use Rattle.live_pull.specs.Pulls.{Collects, Transfer, client_settings}
+use Rattle.live_pull.specs.Refusals.{OutcomeTold}
+use Rattle.live_pull.specs.Settings.{settings_of}
+use Rattle.live_pull.specs.declared.live.Prepared.{Prepared}
+use Rattle.live_pull.specs.declared.pulls.Terms.{Terms}
+use Rattle.live_pull.specs.declared.settings.LiveSettings.{LiveSettings}
+use Rattle.live_pull.specs.declared.status.Status.{Status}
+use Rattle.live_pull.specs.declared.status.Status.TheVariants as status
+
+-- a client with these settings, and its arguments
+abbrev pub Prepares : {V : Type 0} {H : V → Type 0} → LiveSettings → Prepared V H → Type 0
+Prepares settings p =
+    (reference_of settings.reference ≡ Ok (reference_in p.terms.image))
+    × (registry_auth p.terms.auth ≡ settings.auth)
+    × (p.terms.accepted ≡ settings.accepted)
+    × (p.terms.moment ≡ settings.moment)
+    × (p.terms.policy.keys ≡ settings.keys)
+    × (p.terms.policy.constraints ≡ constraints_by settings.constraints)
+    × (client_state p.client ≡ record { settings = client_settings settings; kept = fresh true })
+    × (p.client.rekor_pub_keys ≡ settings.log_keys)
+
+-- what a frame parses as
+abbrev pub ReadsSettings : Result LiveSettings Status → Data → Type 0
+ReadsSettings (Ok settings) d = settings_of d ≡ Some settings
+ReadsSettings (Err status.UnreadableSettings) d = settings_of d ≡ None
+ReadsSettings (Err status.WantOfMemory) d = Unit {0}
+ReadsSettings (Err other) d = ⊥
+
+-- why no settings were read
+abbrev pub BeginCause : Status → Wire → Wire → Type 0
+BeginCause status.Pulled old new = ⊥
+BeginCause status.Refused old new = ⊥
+BeginCause status.UnreadableSettings old new = NoSettings old new
+BeginCause status.HostBroken old new = IsBroken new
+BeginCause status.SinkFault old new = IsUnwritten new
+BeginCause status.WantOfMemory old new = Unit {0}
+
+-- how the result of a pull was sent
+abbrev pub Delivers : Bool → Result VerifiedImage PullRefusal → Status → Wire → Wire → Type 0
+Delivers blobs (Ok v) status.Pulled old new = OutcomeTold blobs (Ok v) old new
+Delivers blobs (Err e) status.Pulled old new = ⊥
+Delivers blobs (Ok v) status.Refused old new = ⊥
+Delivers blobs (Err e) status.Refused old new = (is_memory e ≡ false) × OutcomeTold blobs (Err e) old new
+Delivers blobs r status.UnreadableSettings old new = ⊥
+Delivers blobs r status.HostBroken old new = IsBroken new
+Delivers blobs r status.SinkFault old new = IsUnwritten new
+Delivers blobs r status.WantOfMemory old new = Unit {0}
+
+-- a property of a pull: of the client state before and after, its result, and the streams before and after
+abbrev pub Showing : Type 1
+Showing = Kept → Kept → Result VerifiedImage PullRefusal → Wire → Wire → Type 0
+
+-- a pull, and what was sent for it
+abbrev pub Finished : Whole VerifiedImage → Showing → Bool → Kept → Wire → Wire → Result VerifiedImage PullRefusal
+    → Type 0
+Finished row Shows blobs k old new r =
+    (pulled : Wire) × (l : Kept) × Transfer row old pulled k l r × Shows k l r old pulled
+    × OutcomeTold blobs r pulled new
+
+-- the search by these terms
+abbrev pub searched_by : {V : Type 0} {H : V → Type 0}
+    → Terms V H → FinMap by_bytes (List ℕ) → Settings → Row TrustedLayers
+searched_by terms log_keys settings =
+    searched (everyone log_keys) (within settings terms.moment) (reference_in terms.image) (registry_auth terms.auth)
+
+-- a search, questions about what it found, and a pull under the answers
+pub record SearchAskPull (search : Row TrustedLayers) (Stays : Kept → Kept → Wire → Wire → Type 0)
+    (pull : Answers → Whole VerifiedImage) (shows : Answers → Showing) (blobs : Bool) (k : Kept) (old new : Wire)
+    (r : Result VerifiedImage PullRefusal) : Type 0 where
+  pub searched_at : Wire
+  pub kept : Kept
+  pub layers : List SignatureLayer
+  pub collects : Collects search old searched_at k kept layers
+  pub stays : Stays k kept old searched_at
+  pub asked_at : Wire
+  pub answers : Answers
+  pub questions : WereAsked answers.list searched_at asked_at
+  pub finished : Finished (pull answers) (shows answers) blobs kept asked_at new r

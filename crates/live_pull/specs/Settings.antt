@@ -1,0 +1,81 @@
+-- The settings of a live pull.
+use Rattle.std.specs.Prelude.{ℕ, List, [], ◌∷◌, Option, Some, None, IsOk, codes}
+use Rattle.std.specs.FinMap.{FinMap, empty}
+use Rattle.serde_json.specs.Data.{Data}
+use Rattle.json_values.specs.Places.{by_bytes}
+use Rattle.json_tables.specs.Reading.{◌>>=◌, text_of, u64_of, bool_of, list_of, map_of}
+use Rattle.json_tables.specs.Objects.{only}
+use Rattle.json_tables.specs.Member.{required, optional, at_name}
+use Rattle.json_tables.specs.Bytes.{base64_of}
+use Rattle.oci_names.specs.Reference.{reference_of}
+use Rattle.oci_auth.specs.declared.auth.RegistryAuth.TheVariants.{Anonymous}
+use Rattle.engine_terms.specs.declared.settings.ClientProtocol.TheVariants.{Https}
+use Rattle.recorded_case.specs.Auth.{auth_of}
+use Rattle.recorded_case.specs.Case.{reference_text_of, protocol_of}
+use Rattle.recorded_case.specs.Constraint.{constraint_of}
+use Rattle.recorded_case.specs.Members.{unless_absent, number_of}
+use Rattle.recorded_case.specs.Platform.{platform_of}
+use Rattle.live_host.specs.Names.{frame_named}
+use Rattle.live_pull.specs.declared.settings.LiveSettings.{LiveSettings}
+
+-- the members of the settings
+abbrev pub members : List (List ℕ)
+members =
+    codes "reference"
+    ∷ codes "protocol"
+    ∷ codes "auth"
+    ∷ codes "accepted"
+    ∷ codes "platform"
+    ∷ codes "moment"
+    ∷ codes "limit"
+    ∷ codes "keys"
+    ∷ codes "constraints"
+    ∷ codes "log_keys"
+    ∷ codes "blobs"
+    ∷ codes "frame"
+    ∷ []
+
+-- the bytes of a key
+unfoldable pub key_of : Data → Option (List ℕ)
+key_of d = base64_of d
+
+abbrev pub keys_of : Data → Option (List (List ℕ))
+keys_of = list_of key_of
+
+abbrev pub log_keys_of : Data → Option (FinMap by_bytes (List ℕ))
+log_keys_of = map_of key_of
+
+-- The frame `settings`, with no other members. They mean the same as those of a recorded case, but keys are base64
+-- strings. `blobs` is whether the blobs of layers are sent.
+unfoldable pub settings_of : Data → Option LiveSettings
+settings_of d = do
+  known ← only members d
+  name ← frame_named (codes "settings") d
+  reference ← required reference_text_of (codes "reference") d
+  protocol ← at_name (unless_absent Https protocol_of) (codes "protocol") d
+  auth ← at_name (unless_absent Anonymous auth_of) (codes "auth") d
+  accepted ← required (list_of text_of) (codes "accepted") d
+  platform ← optional platform_of (codes "platform") d
+  moment ← required u64_of (codes "moment") d
+  limit ← at_name (unless_absent None number_of) (codes "limit") d
+  keys ← required keys_of (codes "keys") d
+  constraints ← required (list_of constraint_of) (codes "constraints") d
+  log_keys ← at_name (unless_absent empty log_keys_of) (codes "log_keys") d
+  blobs ← required bool_of (codes "blobs") d
+  Some (record {
+    reference = reference;
+    protocol = protocol;
+    auth = auth;
+    accepted = accepted;
+    platform = platform;
+    moment = moment;
+    limit = limit;
+    keys = keys;
+    constraints = constraints;
+    log_keys = log_keys;
+    blobs = blobs;
+  })
+
+-- its reference parses
+abbrev pub IsReady : LiveSettings → Type 0
+IsReady settings = IsOk (reference_of settings.reference)

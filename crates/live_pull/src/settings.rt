@@ -1,0 +1,131 @@
+// The settings of a live pull.
+ghost use Rattle.std.specs.Prelude.{IfOk};
+ghost use Rattle.serde_json.specs.View.{view};
+ghost use Rattle.json_tables.specs.Outcomes.{ReadsTo};
+ghost use Rattle.live_pull.specs.Settings.{settings_of, IsReady};
+
+use crate::keys::{KeyList, KeyMap};
+use cosign_parts::LogKeys;
+use engine_terms::ClientProtocol;
+use json_tables::{ReadError, Reads, only, read_row};
+use json_values::{Blob, List, Text, row};
+use live_host::is_frame;
+use oci_auth::RegistryAuth;
+use oci_descriptors::PlatformResolver;
+use recorded_case::{Entries, OrUsual, Platform, ReferenceText, WrittenConstraint};
+use serde_json::Value;
+use std::alloc::Global;
+
+/// What to pull, under which policy: the frame `settings`, with exactly one member for each field, of the field's name.
+#[derive(Drop)]
+pub struct LiveSettings {
+    /// A string that parses as a reference.
+    pub reference: Text,
+    /// `"http"` or `"https"`; `https` if the member is absent.
+    pub protocol: ClientProtocol,
+    /// `"anonymous"`, `{"basic": [user, password]}` or `{"bearer": token}`; anonymous if the member is absent.
+    pub auth: RegistryAuth,
+    /// A list of strings, the accepted media types of layers.
+    pub accepted: List<Text>,
+    /// `"os/architecture"` or `{"digest": text}`; an index is refused if the member is absent or null.
+    pub platform: Option<PlatformResolver>,
+    /// When the image is pulled, in seconds since 1970.
+    pub moment: u64,
+    /// The maximum number of bytes of a body that is held; the client's default if the member is absent.
+    pub limit: Option<u64>,
+    /// A list of base64 strings, the keys of the policy.
+    pub keys: List<Blob>,
+    /// The constraints of the policy, written as in a recorded case.
+    pub constraints: List<WrittenConstraint>,
+    /// An object from the ids of transparency logs to base64 strings, their keys; none if the member is absent.
+    pub log_keys: LogKeys,
+    /// Whether the blobs of layers are sent.
+    pub blobs: bool,
+}
+
+const NAMES: &[&str] = &[
+    "reference",
+    "protocol",
+    "auth",
+    "accepted",
+    "platform",
+    "moment",
+    "limit",
+    "keys",
+    "constraints",
+    "log_keys",
+    "blobs",
+    "frame",
+];
+
+// The members from each one on, in the order of `NAMES`; the frame's name is read by itself.
+type Blobs = (bool, ());
+
+type Logs = (KeyMap, Blobs);
+
+type Constraints = (Entries<WrittenConstraint>, Logs);
+
+type Keys = (KeyList, Constraints);
+
+type Limit = (OrUsual<Option<u64>>, Keys);
+
+type Moment = (u64, Limit);
+
+type Platforms = (Platform, Moment);
+
+type Accepted = (List<Text>, Platforms);
+
+type Auth = (OrUsual<RegistryAuth>, Accepted);
+
+type Protocol = (OrUsual<ClientProtocol>, Auth);
+
+type Members = (ReferenceText, Protocol);
+
+impl Reads for LiveSettings {
+    ghost use Rattle.live_pull.specs.Settings.{settings_of};
+
+    ghost reading = { settings_of };
+
+    #[tactic(auto, unfolding(crate::specs::Settings::settings_of))]
+    fn read_value(alloc: Global, value: &Value) -> Result<LiveSettings, ReadError> {
+        only(value, NAMES)?;
+        if !is_frame(value, "settings") {
+            return Err(ReadError::Shape);
+        }
+        let row![
+            reference,
+            protocol,
+            auth,
+            accepted,
+            platform,
+            moment,
+            limit,
+            keys,
+            constraints,
+            log_keys,
+            blobs
+        ]: Members = read_row::<LiveSettings, _>(alloc, value, NAMES)?;
+        Ok(LiveSettings {
+            reference: reference.text,
+            protocol: protocol.value,
+            auth: auth.value,
+            accepted,
+            platform: platform.resolver,
+            moment,
+            limit: limit.value,
+            keys: keys.list,
+            constraints: constraints.list,
+            log_keys: log_keys.map,
+            blobs,
+        })
+    }
+}
+
+/// Reads settings. Returns `Shape` if and only if the value is not a frame with the members of `LiveSettings`.
+pub(crate) fn read_settings(alloc: Global, value: &Value) -> Result<LiveSettings, ReadError>
+    ensures exact { ReadsTo result (settings_of (view value.now)) }
+    ensures ready { IfOk result IsReady }
+{
+    let settings = LiveSettings::read_value(alloc, value)?;
+    Ok(settings)
+}

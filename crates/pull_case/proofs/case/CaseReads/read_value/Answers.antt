@@ -1,8 +1,0 @@
-use Rattle.json_tables.proofs.Refusals.{passed_on, behind}
-use Rattle.pull_case.specs.Case.{case_of}
-use Rattle.pull_case.proofs.case.CaseReads.read_value.Goals as goal
-
-pub returns-in_err-reference : goal.returns-in_err-reference
-unfolding case_of
-returns-in_err-reference c =
-    passed_on _ _ _ (behind _ _ c.in_ok-only.ensures (behind _ _ c.in_ok-registry.ensures (c.in_err-reference.ensures.refused _))) c.from_residual-in_err-reference.ensures

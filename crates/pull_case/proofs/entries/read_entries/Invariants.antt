@@ -1,8 +1,0 @@
-use Rattle.std.proofs.Common.{◌≡◌, drop}
-use Rattle.serde_json.specs.View.{items_view}
-use Rattle.json_tables.specs.Reading.{items_by}
-use Rattle.json_tables.proofs.Partial.{with_front}
-use Rattle.pull_case.proofs.entries.read_entries.Given as goal
-
-abbrev pub invariant-loop-item : goal.invariant-loop-item
-invariant-loop-item g l = items_by g.T.Entry.entry (items_view l.items) ≡ with_front l.list (items_by g.T.Entry.entry (items_view (drop l.item-index l.items)))

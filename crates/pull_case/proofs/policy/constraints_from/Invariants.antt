@@ -1,6 +1,0 @@
-use Rattle.std.proofs.Common.{◌≡◌, take}
-use Rattle.pull_case.specs.Policy.{constraints_by}
-use Rattle.pull_case.proofs.policy.constraints_from.Given as goal
-
-abbrev pub invariant-loop-constraint : goal.invariant-loop-constraint
-invariant-loop-constraint g l = l.constraints ≡ constraints_by (take l.constraint-index l.written)

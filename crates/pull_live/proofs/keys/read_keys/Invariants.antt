@@ -1,9 +1,0 @@
-use Rattle.std.proofs.Common.{◌≡◌, drop}
-use Rattle.serde_json.specs.View.{items_view}
-use Rattle.json_tables.specs.Reading.{items_by}
-use Rattle.json_tables.proofs.Partial.{with_front}
-use Rattle.pull_live.specs.Settings.{key_of}
-use Rattle.pull_live.proofs.keys.read_keys.Given as goal
-
-abbrev pub invariant-loop-item : goal.invariant-loop-item
-invariant-loop-item l = items_by key_of (items_view l.items) ≡ with_front l.list (items_by key_of (items_view (drop l.item-index l.items)))

@@ -1,0 +1,5 @@
+pub mod Backs
+pub mod Kept
+pub mod KeyTexts
+pub mod Longest
+pub mod Tells

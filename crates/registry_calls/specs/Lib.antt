@@ -1,0 +1,9 @@
+pub mod Caching
+pub mod Calls
+pub mod Clients
+pub mod Confinement
+pub mod Direct
+pub mod Error
+pub mod ErrorContext
+pub mod Log
+pub mod Named

@@ -1,6 +1,0 @@
-use Rattle.std.proofs.Common.{rules}
-use Rattle.sig_answers.proofs.Kept.{kept_unbounded}
-use Rattle.sig_answers.proofs.answers.Answers.keep.Goals as goal
-
-pub returns-in_default-clause-ok : goal.returns-in_default-clause-ok
-returns-in_default-clause-ok c = kept_unbounded c.args.self.now c.args.entry c.put.new.self (search rules) c.in_ok-put.ensures.ok

@@ -1,9 +1,0 @@
-use Rattle.sig_answers.proofs.Backs.{within_none}
-use Rattle.sig_answers.proofs.Longest.{keeps_longest}
-use Rattle.sig_answers.proofs.laws.kept_within_bounds.Goals as goal
-
-pub returns-clause-unbounded : goal.returns-clause-unbounded
-returns-clause-unbounded c = within_none
-
-pub returns-clause-longest : goal.returns-clause-longest
-returns-clause-longest c = keeps_longest

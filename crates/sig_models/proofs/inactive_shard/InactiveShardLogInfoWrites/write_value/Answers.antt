@@ -1,5 +1,0 @@
-use Rattle.sig_models.proofs.Again.{shard_again}
-use Rattle.sig_models.proofs.inactive_shard.InactiveShardLogInfoWrites.write_value.Goals as goal
-
-pub returns-clause-again : goal.returns-clause-again
-returns-clause-again c = shard_again c.args.self.now

@@ -1,8 +1,0 @@
-use Rattle.json_tables.proofs.Refusals.{passed_on}
-use Rattle.sig_models.specs.PublicKey.{public_key_of}
-use Rattle.sig_models.proofs.public_key.SearchIndexPublicKeyReads.read_value.Goals as goal
-
-pub returns-in_err-format : goal.returns-in_err-format
-unfolding public_key_of
-returns-in_err-format c =
-    passed_on _ _ _ (c.in_err-format.ensures.refused _) c.from_residual.ensures

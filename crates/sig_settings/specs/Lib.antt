@@ -1,3 +1,0 @@
-pub mod Auths
-pub mod Keys
-pub mod Settings

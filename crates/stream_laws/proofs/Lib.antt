@@ -1,0 +1,5 @@
+pub mod StreamCalls
+pub mod StreamCauses
+pub mod StreamRanges
+pub mod StreamRefusalLaws
+pub mod StreamSafety
