@@ -2,7 +2,7 @@
 """Writes the recorded cases below this folder: TABLE/NAME with its stdin and stdout, its args where the word is another one
 than `pull`, and its status where that is not 0.
 
-They follow from the rules that the READMEs of pull_case, pull_report and pull_run state and from the OCI specifications alone: digests are computed here, and nothing is
+They follow from the rules that the READMEs of recorded_case, pull_report and pull_run state and from the OCI specifications alone: digests are computed here, and nothing is
 taken from what the program writes. `tests/rows/run` runs the program over them.
 """
 import base64
@@ -212,6 +212,23 @@ def pulls():
     tag = compact(f"{REGISTRY}/app@{digest(IMAGE)}")
     lines = ["moment 100"] + asked + [f"GET {other}"] * 10 + [f"refused RegistryPullError {tag} ServerError 307 {compact(other)} 0"]
     write("pulls/eleven_redirects", case(answers[:-1] + again, [signature]), lines, 1)
+    # Two redirects of two kinds, with a password: the same requests, whoever receives it.
+    there = "http://mirror.example/l"
+    moved = answers[:-1] + [answer(None, None, 307, headers=[["location", other]]), answer(None, None, 302, headers=[["location", there]]), answers[-1]]
+    lines = ["moment 100"] + asked + [f"GET {other}", f"GET {there}"] + image_lines(signature)
+    write("pulls/two_redirects_with_a_password", case(moved, [signature], auth={"basic": ["user", "secret"]}), lines)
+    # A redirect that leads nowhere is an answer, and an error of a blob is told with its list of errors, if it has one.
+    url = compact(f"{BASE}app/blobs/{digest(CONTENT)}")
+    listed = compact({"errors": [{"code": "ARTIFACT_LOCKED", "message": "m"}]})
+    known = compact({"errors": [{"code": "BLOB_UNKNOWN", "message": "m"}]})
+    for title, given, error in [
+        ("a_redirect_without_location", answer(status=307), f"ServerError 307 {url} 0"),
+        ("a_blob_that_is_not_found", answer("no", status=404), f"ServerError 404 {url} 2"),
+        ("a_blob_that_is_not_found_with_an_error", answer(known, status=404), f"RegistryError 1 {url}"),
+        ("a_blob_with_an_error_of_another_code", answer(listed, status=404), f"RegistryError 1 {url}"),
+    ]:
+        lines = ["moment 100"] + asked + [f"refused RegistryPullError {tag} {error}"]
+        write(f"pulls/{title}", case(answers[:-1] + [given], [signature]), lines, 1)
     twelve_layers()
 
 
@@ -836,6 +853,18 @@ def tokens():
     lines += ["moment 161", f"GET {BASE}", f"GET {REALM}{SCOPE}", asked, refusal]
     answers = [bearer, given, refused, refused, bearer, given, refused]
     write("tokens/a_kept_token_until_it_expires", case(answers, moments=[100, 160, 161], **basic), lines, 1)
+    # So is one of five parts, which is no JSON web token.
+    five = [bearer, answer('{"token":"a.b.c.d.e"}'), refused, refused, bearer, answer('{"token":"a.b.c.d.e"}'), refused]
+    write("tokens/a_token_of_five_parts", case(five, moments=[100, 160, 161], **basic), lines, 1)
+    # A payload with padding cannot be decoded (RFC 7515, 2), so its token is not kept.
+    first = [f"GET {BASE}", f"GET {REALM}{SCOPE}", asked, refusal]
+    padded = [bearer, answer('{"token":"a.e30=.c"}'), refused] * 2
+    write("tokens/a_padded_payload", case(padded, moments=[100, 101], **basic), ["moment 100"] + first + ["moment 101"] + first, 1)
+    # The greatest number of seconds is kept for a day.
+    last = "a." + base64.urlsafe_b64encode(b'{"exp":18446744073709551615}').decode().rstrip("=") + ".c"
+    day = [bearer, answer(compact({"token": last})), refused, refused, bearer, answer(compact({"token": last})), refused]
+    lines = ["moment 100"] + first + ["moment 86500", asked, refusal, "moment 86501"] + first
+    write("tokens/a_token_of_the_greatest_moment", case(day, moments=[100, 86500, 86501], **basic), lines, 1)
 
 
 # ---- references

@@ -2,11 +2,9 @@
 use Rattle.std.specs.Prelude.{ℕ, Bool, true, false, List, if◌then◌else◌, Option, Some, None, unwrap_or}
 use Rattle.std.specs.FinMap.{FinMap, empty, entries}
 use Rattle.json_values.specs.Places.{by_bytes}
-use Rattle.oci_auth.specs.AuthState.{fresh}
-use Rattle.oci_engine.specs.Clients.{settings_of}
-use Rattle.oci_engine.specs.declared.config.ClientConfig.{ClientConfig as OciConfig}
-use Rattle.registry_calls.specs.Clients.{Client as Shown, no_answers}
+use Rattle.registry_calls.specs.Clients.{Client as Shown}
 use Rattle.sig_registry.specs.Config.{oci_config}
+use Rattle.sig_registry.specs.States.{fresh_state}
 use Rattle.sig_registry.specs.declared.config.ClientConfig.{ClientConfig}
 use Rattle.cosign_parts.specs.Items.{has_no_item}
 use Rattle.cosign_client.specs.declared.builder.ClientBuilder.{ClientBuilder}
@@ -28,13 +26,6 @@ keys_of b = unwrap_or b.rekor_pub_keys empty
 -- the given keys, if there are any
 abbrev pub keys_or : Keys → Keys → Keys
 keys_or given kept = if has_no_item (entries given) then kept else given
-
--- the state of a new client with this configuration
-abbrev pub fresh_state : OciConfig → Bool → Shown
-fresh_state config caching = record {
-  settings = settings_of config;
-  kept = (fresh config.default_token_expiration_secs, no_answers caching);
-}
 
 -- the new client of a configuration
 abbrev pub fresh_client : ClientConfig → Bool → Shown

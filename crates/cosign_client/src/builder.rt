@@ -1,28 +1,15 @@
 //! The builder of a client.
 ghost use Rattle.std.specs.Prelude.{◌≡◌, true, false, IfOk};
 ghost use Rattle.std.specs.FinMap as map;
-ghost use Rattle.sig_registry.specs.States.{state_of};
 ghost use Rattle.sig_registry.specs.Config.{default_config};
-ghost use Rattle.cosign_client.specs.Builder.{config_of, caches, keys_of, keys_or, fresh_state, fresh_client};
+ghost use Rattle.cosign_client.specs.Builder.{config_of, caches, keys_of, keys_or, fresh_client};
 ghost use Rattle.cosign_client.specs.State.{client_state};
 
 use crate::client::Client;
 use crate::trust_root::TrustRoot;
 use cosign_parts::LogKeys;
-use oci_engine::ClientConfig as OciConfig;
-use sig_registry::{ClientConfig, OciCachingClient, OciClient, RegistryClient};
+use sig_registry::{ClientConfig, RegistryClient};
 use std::alloc::{AllocError, Global};
-
-// The new client of a configuration.
-fn registry_client(alloc: Global, config: OciConfig, caching: bool) -> RegistryClient
-    ensures { state_of result ≡ fresh_state config caching }
-{
-    let client = oci_engine::Client::new(alloc, config);
-    if caching {
-        return RegistryClient::Caching(OciCachingClient::new(alloc, client));
-    }
-    RegistryClient::Plain(OciClient::new(client))
-}
 
 /// The parts of a client: the configuration of its registry's client, whether that caches, and the keys of transparency
 /// logs.
@@ -120,7 +107,7 @@ impl ClientBuilder {
             rekor_pub_keys,
         } = self;
         let config = oci_client_config.into_oci(alloc)?;
-        let registry_client = registry_client(alloc, config, enable_registry_caching);
+        let registry_client = RegistryClient::fresh(alloc, config, enable_registry_caching);
         let rekor_pub_keys = match rekor_pub_keys {
             Some(keys) => keys,
             None => LogKeys::new(alloc),

@@ -1,15 +1,14 @@
 //! The client of a program's pulls.
 ghost use Rattle.std.specs.Prelude.{◌≡◌};
-ghost use Rattle.cosign_client.specs.Builder.{fresh_state};
 ghost use Rattle.cosign_client.specs.State.{client_state};
-ghost use Rattle.sig_registry.specs.States.{state_of};
+ghost use Rattle.sig_registry.specs.States.{fresh_state};
 ghost use Rattle.cosign_client.specs.Clients.{config_by};
 
 use crate::client::Client;
 use cosign_parts::LogKeys;
 use oci_descriptors::PlatformResolver;
 use oci_engine::{ClientConfig, ClientProtocol};
-use sig_registry::{OciCachingClient, OciClient, RegistryClient};
+use sig_registry::RegistryClient;
 use std::alloc::Global;
 
 /// The written settings of a client. All others have their defaults.
@@ -43,17 +42,7 @@ pub fn client_by(alloc: Global, usual: ClientConfig, written: WrittenClient) -> 
     config.max_body_bytes = limit.unwrap_or(config.max_body_bytes);
     config.platform_resolver = platform;
     Client {
-        registry_client: registry_client(alloc, config, caching),
+        registry_client: RegistryClient::fresh(alloc, config, caching),
         rekor_pub_keys: log_keys,
     }
-}
-
-fn registry_client(alloc: Global, config: ClientConfig, caching: bool) -> RegistryClient
-    ensures { state_of result ≡ fresh_state config caching }
-{
-    let client = oci_engine::Client::new(alloc, config);
-    if caching {
-        return RegistryClient::Caching(OciCachingClient::new(alloc, client));
-    }
-    RegistryClient::Plain(OciClient::new(client))
 }

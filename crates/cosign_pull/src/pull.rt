@@ -87,7 +87,7 @@ fn entry_in(
     Ok(manifest)
 }
 
-// Each descriptor's blob, behind the layers that are there.
+// Appends each descriptor's blob to the layers.
 fn pull_layers<C: ClientCapabilities, T: Transport>(
     alloc: Global,
     client: &mut C,

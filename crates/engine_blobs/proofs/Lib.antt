@@ -1,4 +1,4 @@
-pub mod Attempts
+pub mod AttemptSteps
 pub mod Layers
 pub mod NoSink
 pub mod PlacesInTurn

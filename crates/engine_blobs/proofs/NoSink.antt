@@ -33,7 +33,7 @@ use Rattle.engine_requests.specs.Addresses.{url_or, url_read, registry_text}
 use Rattle.engine_requests.specs.Requests.{with_header, with_accept, with_token, headers_of, request_of}
 use Rattle.engine_rows.specs.Rows.{Row, passed_over, taken, token_step, token_asked, kept_or_asked, token_by, token_for, goes_to, token_where, authorized, prepared}
 use Rattle.engine_rows.specs.Blobs.{MeetsIntoSink}
-use Rattle.engine_blobs.proofs.Attempts.{spills_none}
+use Rattle.engine_blobs.proofs.AttemptSteps.{spills_none}
 
 -- an error is not a fault of the sink
 abbrev pub Calm : {A : Type 0} → Result A OciDistributionError → Type 0

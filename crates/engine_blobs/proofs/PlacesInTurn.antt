@@ -20,7 +20,7 @@ use Rattle.oci_transport.specs.declared.message.Method.TheVariants.{Get}
 use Rattle.engine_rows.specs.Rows.{Row}
 use Rattle.engine_rows.specs.Blobs.{Destination, IntoSink, IntoMemory, attempt, MeetsIntoSink}
 use Rattle.engine_rows.specs.Offers.{offer, tried, Offered, OfferedInto}
-use Rattle.engine_blobs.proofs.Attempts.{spills_wanting, spills_next}
+use Rattle.engine_blobs.proofs.AttemptSteps.{spills_wanting, spills_next}
 use Rattle.engine_rows.proofs.Exits.{said, refused, and_then}
 use Rattle.engine_blobs.proofs.Layers.{at_next}
 use Rattle.engine_blobs.proofs.NoSink.{Calm, request_calm, done_calm, spills_refused}

@@ -9,7 +9,7 @@ use Rattle.registry_calls.specs.declared.reference.OciReference.{OciReference}
 use Rattle.registry_cache.specs.Auths.{registry_auth}
 use Rattle.oci_names.specs.Reference.{reference_of}
 use Rattle.oci_engine.specs.Clients.{default_config}
-use Rattle.cosign_client.specs.Builder.{fresh_state}
+use Rattle.sig_registry.specs.States.{fresh_state}
 use Rattle.cosign_layers.specs.declared.constraint.Constraint.{Constraint}
 use Rattle.recorded_case.specs.Policy.{constraints_by}
 use Rattle.cosign_client.specs.Clients.{config_by}

@@ -1,6 +1,6 @@
 -- Settings with the client that was built for them.
 use Rattle.std.specs.Prelude.{◌≡◌, true}
-use Rattle.cosign_client.specs.Builder.{fresh_state}
+use Rattle.sig_registry.specs.States.{fresh_state}
 use Rattle.cosign_client.specs.State.{client_state}
 use Rattle.cosign_client.specs.Clients.{config_by}
 use Rattle.cosign_client.specs.declared.asked.Asked.{Asked}

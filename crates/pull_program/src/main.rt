@@ -25,7 +25,7 @@ fn advice(status: u8) -> &'static str {
         2 =>
             "usage: pull_program with pull < CASE, canon < JSON, check < INPUT, or gen N with N from 1 to 1000",
         3 =>
-            "the input is not a case (see crates/pull_case/README.md for its members), not a chain, or not JSON",
+            "the input is not a case (see crates/recorded_case/README.md for its members), not a chain, or not JSON",
         4 => "the input could not be read",
         5 => "the output could not be written",
         6 => "out of memory",

@@ -4,10 +4,7 @@ ghost use Rattle.pull_report.specs.Words.{line};
 ghost use Rattle.pull_report.specs.Lines.{method_name};
 
 use crate::printed::{Printed, print_row, word};
-use cosign_parts::SignatureLayer;
-use cosign_rows::Skipped;
 use json_values::{Blob, row};
-use oci_descriptors::OciDescriptor;
 use oci_transport::{Exchange, Method};
 use std::alloc::{AllocError, Global};
 
@@ -81,35 +78,5 @@ impl Line for Exchange {
             method_name(self.request.method),
             self.request.url.as_str(),
         )
-    }
-}
-
-impl Line for OciDescriptor {
-    ghost use Rattle.pull_report.specs.Report.{layer_line};
-
-    ghost line = { layer_line };
-
-    fn write_line(&self, _alloc: Global, out: &mut Blob) -> Result<(), AllocError> {
-        text_line(out, "layer", self.digest.as_str())
-    }
-}
-
-impl Line for SignatureLayer {
-    ghost use Rattle.pull_report.specs.Report.{collected_line};
-
-    ghost line = { collected_line };
-
-    fn write_line(&self, _alloc: Global, out: &mut Blob) -> Result<(), AllocError> {
-        text_line(out, "collected", self.oci_digest.as_str())
-    }
-}
-
-impl Line for Skipped {
-    ghost use Rattle.pull_report.specs.Report.{skipped_line};
-
-    ghost line = { skipped_line };
-
-    fn write_line(&self, alloc: Global, out: &mut Blob) -> Result<(), AllocError> {
-        print_line(alloc, out, "skipped", self)
     }
 }

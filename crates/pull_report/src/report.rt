@@ -2,12 +2,44 @@
 ghost use Rattle.std.specs.Prelude.{◌≡◌, ◌++◌, OnOk};
 ghost use Rattle.pull_report.specs.Report.{image_lines, search_lines, refusal_lines, outcome_lines, report};
 
-use crate::lines::{print_line, text_line, write_lines};
+use crate::lines::{Line, print_line, text_line, write_lines};
 use cosign_chain::VerifiedImage;
-use cosign_rows::PullRefusal;
+use cosign_parts::SignatureLayer;
+use cosign_rows::{PullRefusal, Skipped};
 use json_values::{Blob, write_decimal};
+use oci_descriptors::OciDescriptor;
 use oci_transport::Exchange;
 use std::alloc::{AllocError, Global};
+
+impl Line for OciDescriptor {
+    ghost use Rattle.pull_report.specs.Report.{layer_line};
+
+    ghost line = { layer_line };
+
+    fn write_line(&self, _alloc: Global, out: &mut Blob) -> Result<(), AllocError> {
+        text_line(out, "layer", self.digest.as_str())
+    }
+}
+
+impl Line for SignatureLayer {
+    ghost use Rattle.pull_report.specs.Report.{collected_line};
+
+    ghost line = { collected_line };
+
+    fn write_line(&self, _alloc: Global, out: &mut Blob) -> Result<(), AllocError> {
+        text_line(out, "collected", self.oci_digest.as_str())
+    }
+}
+
+impl Line for Skipped {
+    ghost use Rattle.pull_report.specs.Report.{skipped_line};
+
+    ghost line = { skipped_line };
+
+    fn write_line(&self, alloc: Global, out: &mut Blob) -> Result<(), AllocError> {
+        print_line(alloc, out, "skipped", self)
+    }
+}
 
 fn write_image(alloc: Global, out: &mut Blob, image: &VerifiedImage) -> Result<(), AllocError>
     ensures { OnOk result (out.new ≡ out.old ++ image_lines image.now) }

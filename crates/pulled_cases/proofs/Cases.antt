@@ -26,7 +26,7 @@ use Rattle.recorded_case.specs.declared.case.Case.{Case}
 use Rattle.pulled_cases.specs.declared.report.Report.{Report}
 use Rattle.oci_engine.specs.Clients.{default_config}
 use Rattle.oci_engine.specs.declared.config.ClientConfig.{ClientConfig}
-use Rattle.cosign_client.specs.Builder.{fresh_state}
+use Rattle.sig_registry.specs.States.{fresh_state}
 use Rattle.cosign_client.specs.Clients.{config_by, fresh}
 use Rattle.cosign_client.specs.State.{client_state}
 use Rattle.cosign_layers.specs.declared.constraint.Constraint.{Constraint}

@@ -1,6 +1,6 @@
 -- A case with the client that was built for it.
 use Rattle.std.specs.Prelude.{◌≡◌}
-use Rattle.cosign_client.specs.Builder.{fresh_state}
+use Rattle.sig_registry.specs.States.{fresh_state}
 use Rattle.cosign_client.specs.State.{client_state}
 use Rattle.recorded_case.specs.declared.case.Case.{Case}
 use Rattle.cosign_client.specs.Clients.{config_by}

@@ -1,11 +1,14 @@
 -- The states of a registry's clients.
-use Rattle.std.specs.Prelude.{◌≡◌, Option, Some, None, Result}
+use Rattle.std.specs.Prelude.{◌≡◌, Bool, Option, Some, None, Result}
+use Rattle.oci_auth.specs.AuthState.{fresh}
 use Rattle.oci_transport.specs.Link.{Link}
 use Rattle.oci_protocol.specs.Runs.{Meets}
 use Rattle.engine_terms.specs.declared.settings.Settings.{Settings}
+use Rattle.oci_engine.specs.Clients.{settings_of}
 use Rattle.oci_engine.specs.declared.client.Client.{Client as Engine}
+use Rattle.oci_engine.specs.declared.config.ClientConfig.{ClientConfig as OciConfig}
 use Rattle.registry_cache.specs.declared.answers.Answers.{Answers}
-use Rattle.registry_calls.specs.Clients.{Client, Plain}
+use Rattle.registry_calls.specs.Clients.{Client, Plain, no_answers}
 use Rattle.registry_calls.specs.Error.{is_memory}
 use Rattle.registry_calls.specs.declared.error.SigstoreError.{SigstoreError}
 use Rattle.sig_registry.specs.declared.caching.OciCachingClient.{OciCachingClient}
@@ -27,6 +30,13 @@ caching_state c = engine_state c.client (Some c.answers)
 abbrev pub state_of : RegistryClient → Client
 state_of (given.Plain c) = plain_state c
 state_of (given.Caching c) = caching_state c
+
+-- the state of a new client with this configuration
+abbrev pub fresh_state : OciConfig → Bool → Client
+fresh_state config caching = record {
+  settings = settings_of config;
+  kept = (fresh config.default_token_expiration_secs, no_answers caching);
+}
 
 -- the same for a call without a cache
 pub record PlainlyMade {A : Type 0} (s : Settings) (p : Plain A) (c d : Engine) (old new : Link)

@@ -4,7 +4,7 @@ use crate::plain::OciClient;
 use json_values::{Blob, Text};
 use oci_auth::RegistryAuth;
 use oci_descriptors::OciDescriptor;
-use oci_engine::{ImageData, PlatformResolver};
+use oci_engine::{Client, ClientConfig, ImageData, PlatformResolver};
 use oci_manifests::{OciImageIndex, OciManifest};
 use oci_names::Reference;
 use oci_transport::Transport;
@@ -23,7 +23,19 @@ pub enum RegistryClient {
 impl RegistryClient {
     ghost use Rattle.std.specs.Prelude.{◌≡◌};
     ghost use Rattle.registry_calls.specs.Clients.{now_caching};
-    ghost use Rattle.sig_registry.specs.States.{state_of};
+    ghost use Rattle.sig_registry.specs.States.{fresh_state, state_of};
+
+    /// Returns a new client with this configuration, with or without a cache. It keeps no credentials, no tokens and no
+    /// cached responses yet.
+    pub fn fresh(alloc: Global, config: ClientConfig, caching: bool) -> RegistryClient
+        ensures { state_of result ≡ fresh_state config caching }
+    {
+        let client = Client::new(alloc, config);
+        if caching {
+            return RegistryClient::Caching(OciCachingClient::new(alloc, client));
+        }
+        RegistryClient::Plain(OciClient::new(client))
+    }
 
     /// Returns the same client, which caches from now on. A client that caches already is unchanged.
     pub fn caching(self, alloc: Global) -> RegistryClient

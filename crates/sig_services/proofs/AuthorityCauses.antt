@@ -43,7 +43,7 @@ certificate_refuses body e h = by_text (text_body body) h where
 parted_refuses : (body : List ℕ) (certificates : List (List ℕ)) (e : FulcioError) → parted certificates ≡ Err e → e ≡ ChainTooShort
 parted_refuses body [] e h = cc
 parted_refuses body (cert ∷ chain) e h = by_count (nat_eq (length chain) 0) h where
-  by_count : (b : Bool) → (if b then Err ChainTooShort else Ok (cert, chain)) ≡ Err e → e ≡ ChainTooShort
+  by_count : (b : Bool) → if◌then◌else◌ {A = Result (List ℕ × List (List ℕ)) FulcioError} b (Err ChainTooShort) (Ok (cert, chain)) ≡ Err e → e ≡ ChainTooShort
   by_count true h = cc
   by_count false h = absurd (cc h)
 
@@ -82,7 +82,7 @@ module _ {A : Type 0} (read : List ℕ → Result A FulcioError) (refuses : (bod
   request_why body e m n h = by_url (parse_url (Some root) path) refl h where
     by_url : (o : Parsed Parts) → parse_url (Some root) path ≡ o
         → Refusals.◌>>=◌ {B = Request} (joined_to path o) (λ url. Refusals.◌>>=◌ {B = Request} (headers_of token accept) (λ headers. Ok (record { method = Post; url = serialize url; headers = headers; body = body }))) ≡ Err e → AuthorityWhy read root path token accept m [] n e
-    by_url (Err x) is h = let at : Url path ≡ e = cc in rw (← at) (refl, refl, rw is tt)
+    by_url (Err x) is h = let at : Url path ≡ e = cc in rw (← at) (refl, refl, rw is refl)
     by_url (Ok url) is h = headers_why url body e m n (headers_with (codes "Bearer " ++ token) accept) refl h
 
   -- ---- the answer
@@ -110,7 +110,7 @@ module _ {A : Type 0} (read : List ℕ → Result A FulcioError) (refuses : (bod
   unfolding read_within bind
   reply_why request e k l m o n d (Answered answer) r replies run le = last_why answer e k l m o n d r replies.reply_is.1 run
   reply_why request e k l m o n d TooLong r replies run le =
-      after_why e k l m o n d BodyTooLong r (replies.reply_is.0, (e, refl, replies.reply_is.2), (let is : 4294967295 ≡ replies.reply_is.1 = cc in rw is replies.reply_is.4)) run
+      after_why e k l m o n d BodyTooLong r (replies.reply_is.0, (e, refl, replies.reply_is.2), (let is : 4294967295 ≡ replies.reply_is.1 = cc in omega (arith, is, replies.reply_is.4))) run
   reply_why request e k l m o n d Failed r replies run le =
       after_why e k l m o n d Broken r (omega (arith, replies.faults_is, replies.reply_is, le)) run
   reply_why request e k l m o n d (Headed head) r replies run le = absurd (cc replies.reply_is.2)

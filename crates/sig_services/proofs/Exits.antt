@@ -40,7 +40,7 @@ module _ {E : Type 0} {of_memory : E → Bool} where
   pub wanting : {A : Type 0} {p : Row E A} {link : Link} {k : Unit {0}} (e : E) {r : Result A E} → of_memory e ≡ true → IsErrAnd r (λ x. x ≡ e) → Meets of_memory p link link k k r
   wanting {p} {link} {k} e {r} memory is = let at = err_from_is_err_and r is in rw (at.1, at.2) (Meets-memory of_memory p link k e memory)
 
-  -- an error that says that memory ran out
-  pub wanted : {A : Type 0} (e : E) {r : Result A E} → of_memory e ≡ true → IsErrAnd r (λ x. x ≡ e) → IsErrAnd r (λ x. of_memory x ≡ true)
-  wanted e {r = Ok a} memory is = absurd is
-  wanted e {r = Err x} memory is = rw is memory
+-- an error that says that memory ran out
+pub wanted : {E A : Type 0} (of_memory : E → Bool) (e : E) (r : Result A E) → of_memory e ≡ true → IsErrAnd r (λ x. x ≡ e) → IsErrAnd r (λ x. of_memory x ≡ true)
+wanted of_memory e (Ok a) memory is = absurd is
+wanted of_memory e (Err x) memory is = rw is memory

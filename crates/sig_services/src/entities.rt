@@ -8,7 +8,7 @@ ghost use Rattle.sig_services.specs.Entities as spec;
 use json_tables::read_or_none;
 use json_values::{Copied, Json};
 use serde_json::Value;
-use sig_models as models;
+use service_models as models;
 use std::alloc::{AllocError, Global};
 use thiserror::Error;
 

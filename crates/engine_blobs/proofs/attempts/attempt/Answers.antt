@@ -1,5 +1,5 @@
 use Rattle.std.proofs.Common.{refl, inl}
-use Rattle.engine_blobs.proofs.Attempts.{fault_is_none, memory_is_none, spills_none, blob_missed, blob_cut, spills_on}
+use Rattle.engine_blobs.proofs.AttemptSteps.{fault_is_none, memory_is_none, spills_none, blob_missed, blob_cut, spills_on}
 use Rattle.engine_blobs.proofs.attempts.attempt.Goals as goal
 
 pub returns-in-Err-Failed : goal.returns-in-Err-Failed

@@ -1,5 +1,5 @@
 use Rattle.std.proofs.Common.{[]}
-use Rattle.engine_blobs.proofs.Attempts.{compared_on}
+use Rattle.engine_blobs.proofs.AttemptSteps.{compared_on}
 use Rattle.engine_blobs.proofs.attempts.have_digests.Goals as goal
 
 pub returns-in_err-both_compared : goal.returns-in_err-both_compared

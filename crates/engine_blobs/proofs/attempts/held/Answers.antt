@@ -1,5 +1,5 @@
 use Rattle.std.proofs.Common.{refl, inl}
-use Rattle.engine_blobs.proofs.Attempts.{blob_missed, blob_cut}
+use Rattle.engine_blobs.proofs.AttemptSteps.{blob_missed, blob_cut}
 use Rattle.engine_rows.proofs.Exits.{passed_on}
 use Rattle.engine_blobs.proofs.attempts.held.Goals as goal
 

@@ -1,5 +1,5 @@
 use Rattle.std.proofs.Common.{refl, sym, ◌∙◌, inr}
-use Rattle.engine_blobs.proofs.Attempts.{offer_missed, offer_cut, offer_passed, offered_refused}
+use Rattle.engine_blobs.proofs.AttemptSteps.{offer_missed, offer_cut, offer_passed, offered_refused}
 use Rattle.engine_blobs.proofs.attempts.held_offer.Goals as goal
 
 pub returns-in-Err-Failed : goal.returns-in-Err-Failed

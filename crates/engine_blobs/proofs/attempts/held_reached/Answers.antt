@@ -1,5 +1,5 @@
 use Rattle.std.proofs.Common.{refl, sym, ◌∙◌}
-use Rattle.engine_blobs.proofs.Attempts.{blob_wanting, blob_unread, blob_judged, blob_long, blob_failed, held_other, held_whole, held_wanting}
+use Rattle.engine_blobs.proofs.AttemptSteps.{blob_wanting, blob_unread, blob_judged, blob_long, blob_failed, held_other, held_whole, held_wanting}
 use Rattle.engine_blobs.proofs.attempts.held_reached.Goals as goal
 
 pub returns-in_err-plan : goal.returns-in_err-plan

@@ -1,5 +1,5 @@
 use Rattle.std.proofs.Common.{refl, sym, ◌∙◌, inr}
-use Rattle.engine_blobs.proofs.Attempts.{fault_is_none, memory_is_none, spills_none, offer_missed, offer_cut, spills_passed, offered_into_refused}
+use Rattle.engine_blobs.proofs.AttemptSteps.{fault_is_none, memory_is_none, spills_none, offer_missed, offer_cut, spills_passed, offered_into_refused}
 use Rattle.engine_blobs.proofs.attempts.offer.Goals as goal
 
 pub returns-in-Err-Failed : goal.returns-in-Err-Failed

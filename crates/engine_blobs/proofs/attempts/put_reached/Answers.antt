@@ -1,6 +1,6 @@
 use Rattle.std.proofs.Common.{refl, sym, ◌∙◌, arith}
 use Rattle.oci_protocol.proofs.Conversations.{Steady-none}
-use Rattle.engine_blobs.proofs.Attempts.{fault_is_none, long_is_none, memory_is_none, digest_is_none, spills_none, spills_wanting, spills_front, spills_judged, spills_whole, spills_other, blob_wanting, blob_unread, blob_long, blob_failed, blob_spilled, pours_success}
+use Rattle.engine_blobs.proofs.AttemptSteps.{fault_is_none, long_is_none, memory_is_none, digest_is_none, spills_none, spills_wanting, spills_front, spills_judged, spills_whole, spills_other, blob_wanting, blob_unread, blob_long, blob_failed, blob_spilled, pours_success}
 use Rattle.engine_blobs.proofs.attempts.put_reached.Goals as goal
 
 pub returns-in_err-plan : goal.returns-in_err-plan

@@ -1,6 +1,6 @@
 use Rattle.oci_protocol.proofs.Laws.{Meets-refused}
 use Rattle.engine_rows.proofs.Exits.{said}
-use Rattle.engine_blobs.proofs.Attempts.{spills_next, spills_on}
+use Rattle.engine_blobs.proofs.AttemptSteps.{spills_next, spills_on}
 use Rattle.engine_rows.specs.Offers.{tried}
 use Rattle.engine_rows.specs.Pulls.{blob_to}
 use Rattle.engine_blobs.proofs.NoSink.{spills_refused, done_calm, read_calm, prepared_calm}

@@ -1,6 +1,6 @@
 use Rattle.std.proofs.Common.{sym, ◌∙◌}
 use Rattle.std.proofs.lemmas.List.{drop_all}
-use Rattle.engine_blobs.proofs.Attempts.{spills_on}
+use Rattle.engine_blobs.proofs.AttemptSteps.{spills_on}
 use Rattle.engine_blobs.proofs.PlacesInTurn.{put_last, put_over, put_at, put_wanting, put_unasked, put_asked, put_taken, put_passed}
 use Rattle.engine_blobs.proofs.blobs.tried.Goals as goal
 

@@ -4,18 +4,20 @@ use Rattle.service_models.specs.LogEntry.{log_entry_of}
 use Rattle.service_models.specs.ProposedEntry.{proposed_entry_written}
 use Rattle.oci_transport.specs.declared.message.Method.TheVariants.{Post}
 use Rattle.sig_services.specs.Entities.{create_error}
+use Rattle.sig_services.specs.Error.{is_memory}
+use Rattle.sig_services.specs.declared.error.Error.TheVariants.{WantOfMemory}
 use Rattle.sig_services.proofs.Exits.{wanting, wanted}
 use Rattle.sig_services.proofs.CallCauses.{caused}
 use Rattle.sig_services.proofs.entries.create_log_entry.Goals as goal
 
 pub returns-in_err-value-clause-run : goal.returns-in_err-value-clause-run
-returns-in_err-value-clause-run g c = inr (refl, wanted _ refl c.from_residual.ensures.1)
+returns-in_err-value-clause-run g c = inr (refl, wanted is_memory WantOfMemory c.from_residual.result refl c.from_residual.ensures.1)
 
 pub returns-in_err-value-clause-causes : goal.returns-in_err-value-clause-causes
 returns-in_err-value-clause-causes g c = caused (read_plain log_entry_of) create_error c.args.configuration.now (codes "/log/entries") Post None _ (λ k. wanting _ refl c.from_residual.ensures.1)
 
 pub returns-in_err-content-clause-run : goal.returns-in_err-content-clause-run
-returns-in_err-content-clause-run g c = inr (refl, wanted _ refl c.from_residual-in_err-content.ensures.1)
+returns-in_err-content-clause-run g c = inr (refl, wanted is_memory WantOfMemory c.from_residual-in_err-content.result refl c.from_residual-in_err-content.ensures.1)
 
 pub returns-in_err-content-clause-causes : goal.returns-in_err-content-clause-causes
 returns-in_err-content-clause-causes g c = caused (read_plain log_entry_of) create_error c.args.configuration.now (codes "/log/entries") Post None _ (λ k. wanting _ refl c.from_residual-in_err-content.ensures.1)

@@ -12,7 +12,7 @@ pub returns-then-eq-clause-steady : goal.returns-then-eq-clause-steady
 returns-then-eq-clause-steady c = same_answers c.args.self.now.answers _ _ refl refl
 
 pub invariant_of-self : goal.invariant_of-self
-invariant_of-self c = record { met = rw c.saturating_add-self.ensures (met_stop c.args.self.now.answers c.args.self.now.told c.args.self.now.given c.args.self.now.stopped c.args.self.now.faults c.stop.result c.stop.ensures (sym c.eq.ensures ∙ c.if-eq.true) c.args.self.now.met); faults_recorded = calm_stop c.args.self.now.answers c.args.self.now.told c.args.self.now.given c.args.self.now.faults _ (stop_given c.args.self.now.stopped c.stop.result _ c.args.self.now.given c.stop.ensures (sym c.eq.ensures ∙ c.if-eq.true)) c.args.self.now.calm }
+invariant_of-self c = record { met = rw c.saturating_add-self.ensures (met_stop c.args.self.now.answers c.args.self.now.told c.args.self.now.given c.args.self.now.stopped c.args.self.now.faults c.stop.result c.stop.ensures (sym c.eq.ensures ∙ c.if-eq.true) c.args.self.now.met); faults_recorded = calm_stop c.args.self.now.answers c.args.self.now.told c.args.self.now.given c.args.self.now.faults _ (stop_given c.args.self.now.stopped c.stop.result _ c.args.self.now.given c.stop.ensures (sym c.eq.ensures ∙ c.if-eq.true)) c.args.self.now.faults_recorded }
 
 pub returns-clause-taken : goal.returns-clause-taken
 returns-clause-taken c =

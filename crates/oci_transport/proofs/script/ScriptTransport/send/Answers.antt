@@ -26,12 +26,12 @@ returns-in_ok-push-in-None-clause-nothing c _ =
     λ b h. ap Some (ap (λ told. joined (drop 0 (last_pieces items (length told)))) c.in_ok-push-in-None.ensures.ok ∙ nothing_next items c.args.self.now.told _ none)
 
 pub invariant_of-self-in-Some : goal.invariant_of-self-in-Some
-invariant_of-self-in-Some c = record { met = subst (λ told. HasMet c.args.self.now.answers told 0 false c.args.self.now.faults) (sym c.in_ok-push-in-Some.ensures.ok) (met_sent c.args.self.now.answers c.args.self.now.told _ c.args.self.now.faults (omega arith)); faults_recorded = subst (λ told. IsTrue (faults_only_where (answering c.args.self.now.answers).fails 0 told c.args.self.now.faults)) (sym c.in_ok-push-in-Some.ensures.ok) (calm_push (answering c.args.self.now.answers).fails c.args.self.now.told _ c.args.self.now.faults refl c.args.self.now.faults_only_where) }
+invariant_of-self-in-Some c = record { met = subst (λ told. HasMet c.args.self.now.answers told 0 false c.args.self.now.faults) (sym c.in_ok-push-in-Some.ensures.ok) (met_sent c.args.self.now.answers c.args.self.now.told _ c.args.self.now.faults (omega arith)); faults_recorded = subst (λ told. IsTrue (faults_only_where (answering c.args.self.now.answers).fails 0 told c.args.self.now.faults)) (sym c.in_ok-push-in-Some.ensures.ok) (calm_push (answering c.args.self.now.answers).fails c.args.self.now.told _ c.args.self.now.faults refl c.args.self.now.faults_recorded) }
 
 pub invariant_of-self-in-None : goal.invariant_of-self-in-None
 invariant_of-self-in-None c = record {
   met = subst (λ told. HasMet c.args.self.now.answers told 0 false c.saturating_add-self.result) (sym c.in_ok-push-in-None.ensures.ok)
       (met_sent c.args.self.now.answers c.args.self.now.told _ c.saturating_add-self.result (omega (arith, c.saturating_add-self.ensures)));
   faults_recorded = subst (λ told. IsTrue (faults_only_where (answering c.args.self.now.answers).fails 0 told c.saturating_add-self.result)) (sym c.in_ok-push-in-None.ensures.ok)
-      (calm_failed c.args.self.now.answers c.args.self.now.told _ c.args.self.now.faults c.saturating_add-self.result refl (sym (c.in_ok-answer.ensures ∙ (λ i. recorded_answer (slice_get (c.as_slice.ensures i) (length (c.as_slice-place.ensures i))))) ∙ c.in-None.is) c.args.self.now.faults_only_where);
+      (calm_failed c.args.self.now.answers c.args.self.now.told _ c.args.self.now.faults c.saturating_add-self.result refl (sym (c.in_ok-answer.ensures ∙ (λ i. recorded_answer (slice_get (c.as_slice.ensures i) (length (c.as_slice-place.ensures i))))) ∙ c.in-None.is) c.args.self.now.faults_recorded);
 }

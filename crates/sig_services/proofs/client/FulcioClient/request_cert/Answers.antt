@@ -35,5 +35,4 @@ returns-clause-run g c = λ k. and_then _ (rw (c.shown_token-token.ensures, c.in
 
 pub returns-clause-causes : goal.returns-clause-causes
 unfolding request_cert
-returns-clause-causes g c = caused certificate_in certificate_refuses c.args.self.now.root_url (codes "api/v1/signingCert") (token_of c.args.self.now.token_provider).0 None (compact_text (request_written c.args.algorithm c.args.public_key.now c.args.signature.now)) _ (λ k. and_then _ (rw (c.shown_token-token.ensures, c.in_ok-body.ensures) at (c.in_ok-answer.ensures k)) (said _ c.in_ok-cert.ensures)
-    )
+returns-clause-causes g c = caused certificate_in certificate_refuses c.args.self.now.root_url (codes "api/v1/signingCert") (token_of c.args.self.now.token_provider).0 None (compact_text (request_written c.args.algorithm c.args.public_key.now c.args.signature.now)) _ (returns-clause-run g c)

@@ -35,5 +35,4 @@ returns-clause-run g c = λ k. and_then _ (rw c.in_ok-body.ensures at (c.in_ok-a
 
 pub returns-clause-causes : goal.returns-clause-causes
 unfolding request_cert_v2
-returns-clause-causes g c = caused response_in response_refuses c.args.self.now.root_url (codes "api/v2/signingCert") c.args.identity.now (Some (codes "application/pem-certificate-chain")) (compact_text (signing_request_written c.args.request.now)) _ (λ k. and_then _ (rw c.in_ok-body.ensures at (c.in_ok-answer.ensures k)) (said _ c.in_ok-response.ensures)
-    )
+returns-clause-causes g c = caused response_in response_refuses c.args.self.now.root_url (codes "api/v2/signingCert") c.args.identity.now (Some (codes "application/pem-certificate-chain")) (compact_text (signing_request_written c.args.request.now)) _ (returns-clause-run g c)
