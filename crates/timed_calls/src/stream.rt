@@ -1,7 +1,7 @@
+use crate::pieces::{Pieces, piece};
 use json_values::Text;
 use oci_engine::{Client, OciDistributionError};
 use oci_names::Reference;
-use pieces::{Pieces, piece};
 use sha2::{Digest, Sha256};
 use std::alloc::{AllocError, Global};
 use std::env::{self, Env};

@@ -1,0 +1,3 @@
+pub mod MediaTypes
+pub mod Names
+pub mod Numbers

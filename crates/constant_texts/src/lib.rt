@@ -1,0 +1,6 @@
+//! The text or the value of each public constant of the library.
+#![tactic(auto)]
+
+mod texts;
+
+pub use texts::{media_types_are_these, names_are_these, numbers_are_these};

@@ -1,0 +1,160 @@
+"""Certificates of signers under a sigstore trusted root: who is vouched for at the time of the log entry. Nothing is asked over the network."""
+import base64
+import hashlib
+import json
+import re
+import warnings
+from calendar import timegm
+from datetime import datetime, timezone
+from pathlib import Path
+from typing import Any, NamedTuple
+
+from cryptography import x509
+from cryptography.hazmat.primitives.hashes import SHA256, SHA384, SHA512
+from cryptography.hazmat.primitives.serialization import Encoding, PublicFormat
+from cryptography.utils import CryptographyDeprecationWarning
+from cryptography.x509.oid import ExtendedKeyUsageOID as Purpose
+
+from host.keys import load, normalized, verifies
+
+CHECKED = (x509.BasicConstraints, x509.KeyUsage, x509.ExtendedKeyUsage, x509.SubjectAlternativeName)
+RAW_ISSUER, ISSUER = x509.ObjectIdentifier("1.3.6.1.4.1.57264.1.1"), x509.ObjectIdentifier("1.3.6.1.4.1.57264.1.8")
+EPOCH = datetime(1970, 1, 1, tzinfo=timezone.utc)
+warnings.simplefilter("error", CryptographyDeprecationWarning)  # such as of a negative serial number: refused, and not printed
+
+
+class LogKey(NamedTuple):
+    """The key of a log, as PEM text, and from when to when the log signs with it, in seconds since 1970."""
+    key: bytes
+    start: float = 0
+    end: float = float("inf")
+
+
+class Identity:
+    """Who may sign: the email address or URL of the certificate and who vouched for it, each as a string or as a pattern to search for in it."""
+
+    def __init__(self, subject: str | None, subject_pattern: str | None, issuer: str | None, issuer_pattern: str | None) -> None:
+        self.exact = (subject or None, issuer or None)
+        if bool(subject) == bool(subject_pattern) or bool(issuer) == bool(issuer_pattern):
+            raise ValueError("an identity needs a subject and an issuer (--certificate-identity, --certificate-oidc-issuer), as strings or patterns")
+        try:
+            with warnings.catch_warnings(action="error"):  # of what cosign and Python read differently
+                self.patterns = [re.compile(pattern or "", re.ASCII) for pattern in (subject_pattern, issuer_pattern)]
+        except (re.error, Warning, RecursionError, OverflowError) as error:
+            raise ValueError(f"a pattern of an identity is not a regular expression: {error}") from None
+
+    def accepts(self, names: tuple[str, str]) -> bool:
+        """Whether the subject and the issuer are these."""
+        return all(exact in (None, name) and pattern.search(name) for name, exact, pattern in zip(names, self.exact, self.patterns))
+
+
+def key_id(key: bytes) -> str:
+    """SHA-256 of a key's DER form in hexadecimal: the id of a log."""
+    return hashlib.sha256(load(key).public_bytes(Encoding.DER, PublicFormat.SubjectPublicKeyInfo)).hexdigest()
+
+
+def extension(certificate: x509.Certificate, kind: type) -> Any:
+    """The extension of this kind, or None."""
+    return next((one.value for one in certificate.extensions if isinstance(one.value, kind)), None)
+
+
+def is_current(certificate: x509.Certificate, time: float) -> bool:
+    """Whether it is valid at the time, and holds nothing critical that is not checked here."""
+    return timegm(certificate.not_valid_before.timetuple()) <= time <= timegm(certificate.not_valid_after.timetuple()) and not any(
+        one.critical and not isinstance(one.value, CHECKED) or isinstance(one.value, x509.NameConstraints) for one in certificate.extensions)
+
+
+def issued(below: x509.Certificate, above: x509.Certificate, time: float, depth: int) -> bool:
+    """Whether an authority that had `depth` others between itself and the signer issued the certificate below it, and could at the time."""
+    basic, usage, purpose = (extension(above, kind) for kind in CHECKED[:3])
+    is_authority = basic and basic.ca and (basic.path_length is None or basic.path_length >= depth) and usage and usage.key_cert_sign
+    is_for_code = purpose is None or {Purpose.CODE_SIGNING, Purpose.ANY_EXTENDED_KEY_USAGE} & set(purpose)
+    if not (is_authority and is_for_code and is_current(above, time) and below.issuer == above.subject):
+        return False
+    digest = below.signature_hash_algorithm or SHA256()  # none is Ed25519, which needs none
+    return isinstance(digest, (SHA256, SHA384, SHA512)) and verifies(
+        above.public_bytes(Encoding.PEM), below.tbs_certificate_bytes, below.signature, digest)
+
+
+def issuers_of(certificate: x509.Certificate) -> set[str]:
+    """Who vouched for the signer: in the newer extension as a DER string (a tag and a length come first), in the older one as it is."""
+    own = {one.oid: one.value.value for one in certificate.extensions if isinstance(one.value, x509.UnrecognizedExtension)}
+    newer = {own[ISSUER][2 + max(0, own[ISSUER][1] - 128):].decode()} if ISSUER in own else set()
+    return newer | ({own[RAW_ISSUER].decode()} if RAW_ISSUER in own else set())
+
+
+def names_of(certificate: x509.Certificate) -> dict[str, str]:
+    """The signer's email address (`email`) or URL (`url`), and the `issuer` who vouched for it."""
+    names, issuers = list(extension(certificate, x509.SubjectAlternativeName) or ()), issuers_of(certificate)
+    if len(names) == len(issuers) == 1 and isinstance(names[0], (x509.RFC822Name, x509.UniformResourceIdentifier)):
+        found = {"email" if isinstance(names[0], x509.RFC822Name) else "url": names[0].value, "issuer": issuers.pop()}
+        if all(name.isprintable() for name in found.values()):
+            return found
+    raise ValueError("the signer's certificate does not name exactly one email address or URL, and one issuer (user names are not supported)")
+
+
+def period(entry: dict[str, Any]) -> tuple[float, float]:
+    """From when to when an entry of a trusted root is valid: without an end always, without a start never."""
+    start, end = (datetime.fromisoformat(entry["validFor"].get(name) or "9999-12-31T00:00:00Z") for name in ("start", "end"))
+    return (start - EPOCH).total_seconds(), (end - EPOCH).total_seconds()
+
+
+def logs_of(entries: list[dict[str, Any]]) -> dict[str, LogKey]:
+    """The keys of logs by their ids."""
+    keys = [(normalized(base64.b64decode(entry["publicKey"]["rawBytes"])), period(entry["publicKey"])) for entry in entries]
+    return {key_id(key): LogKey(key, *valid) for key, valid in keys}
+
+
+class TrustedRoot:
+    """A trusted_root.json: authorities, each as the chain from issuer to root and its period; logs of signatures, and of certificates."""
+
+    def __init__(self, path: Path) -> None:
+        try:
+            root = json.loads(path.read_bytes())
+            if not root["mediaType"].startswith("application/vnd.dev.sigstore.trustedroot"):
+                raise ValueError("its mediaType is another")
+            self.logs, self.certificate_logs = logs_of(root["tlogs"]), logs_of(root["ctlogs"])
+            self.authorities = [([x509.load_der_x509_certificate(base64.b64decode(one["rawBytes"])) for one in entry["certChain"]["certificates"]],
+                                 period(entry)) for entry in root["certificateAuthorities"]]
+        except (ValueError, LookupError, TypeError, AttributeError, RecursionError, Warning) as error:
+            raise ValueError(f"{path} is not a sigstore trusted root (trusted_root.json): {type(error).__name__}: {error}") from None
+
+    def issuer_of(self, certificate: x509.Certificate, time: float) -> x509.Certificate | None:
+        """Who issued the signer's certificate, in a chain to a root, all of it valid at the time."""
+        for chain, (start, end) in self.authorities:
+            links = enumerate(zip([certificate, *chain], chain))
+            if chain and start <= time <= end and all(issued(below, above, time, depth) for depth, (below, above) in links):
+                return chain[0]
+        return None
+
+    def has_timestamp(self, certificate: Any, issuer: x509.Certificate) -> bool:
+        """Whether a timestamp in the certificate (SCT: RFC 6962, 3.2) is by a log of certificates, of a time at which it signs with that key."""
+        issuer_key = bytes.fromhex(key_id(issuer.public_bytes(Encoding.PEM)))
+        for sct in extension(certificate, x509.PrecertificateSignedCertificateTimestamps) or ():
+            tbs = certificate.tbs_precertificate_bytes
+            entry = b"\0\1" + issuer_key + len(tbs).to_bytes(3, "big") + tbs
+            log = self.certificate_logs.get(sct.log_id.hex())
+            milliseconds = timegm(sct.timestamp.timetuple()) * 1000 + sct.timestamp.microsecond // 1000
+            signed = b"\0\0" + milliseconds.to_bytes(8, "big") + entry + len(sct.extension_bytes).to_bytes(2, "big") + sct.extension_bytes
+            if log and log.start <= milliseconds / 1000 <= log.end and verifies(log.key, signed, sct.signature):
+                return True
+        return False
+
+
+def vouched(data: bytes, time: int, root: TrustedRoot, identities: list[Identity]) -> dict[str, str]:
+    """What a certificate vouches for at the time of its log entry, as a `vouched` frame has it; ValueError with the reason if it is not accepted."""
+    certificate = x509.load_pem_x509_certificate(data) if data.startswith(b"-----") else x509.load_der_x509_certificate(data)
+    basic, usage, purpose = (extension(certificate, kind) for kind in CHECKED[:3])
+    signs = usage and usage.digital_signature and purpose and Purpose.CODE_SIGNING in purpose and not (basic and basic.ca)
+    if not signs or not is_current(certificate, time):
+        raise ValueError("the signer's certificate is not for signing code, or was not valid at the time of the log entry")
+    issuer = root.issuer_of(certificate, time)
+    if not issuer:
+        raise ValueError("the signer's certificate is not by an authority that the trusted root had at the time of the log entry")
+    if not root.has_timestamp(certificate, issuer):
+        raise ValueError("the signer's certificate holds no timestamp (SCT) by a certificate log of the trusted root")
+    names = names_of(certificate)
+    subject = names["email" if "email" in names else "url"]
+    if not any(identity.accepts((subject, names["issuer"])) for identity in identities):
+        raise ValueError(f"it is signed by {subject}, for whom {names['issuer']} vouched, and that identity is not accepted")
+    return names | {"key": base64.b64encode(normalized(certificate.public_bytes(Encoding.PEM))).decode()}

@@ -1,0 +1,68 @@
+"""The credentials for a registry, from the files and the programs that docker, podman and skopeo keep them in."""
+import base64
+import json
+import os
+import re
+import shutil
+import subprocess
+from pathlib import Path
+from typing import Any
+
+FORMS = ("{}", "https://{}", "https://{}/", "https://{}/v1/", "https://{}/v2/", "http://{}")
+HUB, WAIT = ("docker.io", "index.docker.io"), 30
+TOKEN = "an identity token is kept for {}, which cannot be exchanged here; use a user and a password: --username and --password-stdin"
+
+
+def files(authfile: Path | None) -> list[Path]:
+    """Where credentials may be, in the order in which they count."""
+    variable = os.environ.get
+    if named := authfile or variable("REGISTRY_AUTH_FILE"):
+        return [Path(named)]
+    home = variable("HOME")
+    folders = {"containers/auth.json": variable("XDG_RUNTIME_DIR"), "config.json": variable("DOCKER_CONFIG") or home and f"{home}/.docker"}
+    return [Path(folder) / name for name, folder in folders.items() if folder and (Path(folder) / name).is_file()]
+
+
+def helped(helper: str, server: str) -> Any:
+    """What docker-credential-HELPER, a program on the PATH, has for a server."""
+    program = shutil.which(f"docker-credential-{helper}") if re.fullmatch(r"[\w.-]+", helper, re.ASCII) else None
+    if not program:
+        raise ValueError(f"there is no program docker-credential-{helper} on the PATH")
+    done = subprocess.run([program, "get"], input=server.encode(), capture_output=True, timeout=WAIT, check=False)
+    if done.returncode:
+        if b"not found" in done.stdout:
+            return None
+        raise ValueError(f"docker-credential-{helper} failed: {(done.stdout or done.stderr).decode(errors='replace').strip()}")
+    found = json.loads(done.stdout)
+    if found["Username"] == "<token>":
+        raise ValueError(TOKEN.format(server))
+    return {"basic": [found["Username"], found["Secret"]]}
+
+
+def entered(entry: dict[str, Any], name: str) -> Any:
+    if token := entry.get("registrytoken"):
+        return {"bearer": token}
+    if entry.get("identitytoken"):
+        raise ValueError(TOKEN.format(name))
+    user, colon, password = base64.b64decode(entry.get("auth") or "").decode().partition(":")
+    return {"basic": [user, password.rstrip("\0")]} if colon else None
+
+
+def credentials(repository: str, authfile: Path | None) -> Any:
+    """The `auth` of the settings for a repository, whose registry stands first in it: those of the longest name in the first file that has any."""
+    registry, *path = repository.split("/")
+    hosts = HUB if registry in HUB else (registry,)
+    names = ["/".join((host, *path[:count])) for count in range(len(path), 0, -1) for host in hosts]
+    names += [form.format(host) for host in hosts for form in FORMS]
+    for file in files(authfile):
+        try:
+            content = json.loads(file.read_bytes() or b"{}")
+            auths, helpers = content.get("auths") or {}, content.get("credHelpers") or {}
+            helper = next((helpers[host] for host in hosts if host in helpers), None) or content.get("credsStore")
+            server = "https://index.docker.io/v1/" if registry in HUB else registry
+            found = helper and helped(helper, server) or next(filter(None, (entered(auths[name], name) for name in names if name in auths)), None)
+        except (ValueError, LookupError, TypeError, AttributeError, subprocess.SubprocessError) as error:
+            raise ValueError(f"{file} gives no credentials for {registry}: {error}") from None
+        if found:
+            return found
+    return "anonymous"

@@ -1,0 +1,184 @@
+"""Images on disk: written beside their place and moved there once they are whole; and read again, in place of a registry."""
+import contextlib
+import fcntl
+import hashlib
+import io
+import itertools
+import json
+import os
+import re
+import shutil
+import tarfile
+from pathlib import Path
+from typing import Any, BinaryIO, Iterable
+
+from host.core import PIECE, Frame
+
+DIGEST = re.compile(r"(sha256|sha384|sha512):([0-9a-f]+)")
+NAME, OURS, BUNDLE = "org.opencontainers.image.ref.name", "dev.roksnaep.", "application/vnd.dev.sigstore.bundle"
+MANIFEST, INDEX = "application/vnd.oci.image.manifest.v1+json", "application/vnd.oci.image.index.v1+json"
+
+
+def blob_name(digest: str) -> str:
+    match = DIGEST.fullmatch(digest)
+    if not match:
+        raise OSError(f"the digest {digest} cannot name a file")
+    return f"blobs/{match[1]}/{match[2]}"
+
+
+def digest_of(content: bytes) -> str:
+    return f"sha256:{hashlib.sha256(content).hexdigest()}"
+
+
+def sync(path: Path) -> None:
+    """Has the bytes of a file, or the names in a folder, on the disk."""
+    number = os.open(path, os.O_RDONLY)
+    os.fsync(number)
+    os.close(number)
+
+
+def read_index(folder: Path) -> dict[str, Any]:
+    """The index of an OCI image layout, each entry with annotations; ValueError if the folder is not one."""
+    try:
+        index: dict[str, Any] = json.loads((folder / "index.json").read_bytes())
+        for entry in index["manifests"]:
+            entry["annotations"] = {name: str(text) for name, text in (entry.get("annotations") or {}).items()}
+            blob_name(entry["digest"])
+        return index
+    except (OSError, ValueError, LookupError, TypeError, AttributeError) as error:
+        raise ValueError(f"{folder} is not an OCI image layout ({error})") from None
+
+
+class Layout:
+    """An image that is being written to `work`, a hidden folder beside its place, or in it (`home`) if that is a folder already."""
+
+    def __init__(self, target: Path, form: str, tag: str | None) -> None:
+        self.target, self.form, self.tag, self.manifest = target, form, tag, dict[str, Any]()
+        self.index: dict[str, Any] = {"schemaVersion": 2, "mediaType": INDEX, "manifests": []}
+        self.home = target.resolve() if form == "oci" and target.is_dir() else None
+        if self.home and any(self.home.iterdir()):
+            if not tag:
+                raise OSError(f"{target} is not empty; choose another --out, or give a --tag to add the image to an OCI image layout")
+            fcntl.flock(os.open(self.home, os.O_RDONLY), fcntl.LOCK_EX | fcntl.LOCK_NB)  # until the command ends
+            self.index = read_index(self.home)
+        elif not self.home and os.path.lexists(target):
+            raise OSError(f"{target} exists, and is not replaced; choose another --out")
+        parent = self.home or target.absolute().parent
+        self.made = [path for path in (parent, *parent.parents) if not path.exists()]
+        self.work = parent / f".{'' if self.home else target.name}-{os.urandom(6).hex()}"
+        try:
+            self.work.mkdir(parents=True)
+        except OSError:
+            self.close()
+            raise
+
+    def close(self) -> None:
+        """Removes what is not in its place, and the folders that were made for it and are empty."""
+        shutil.rmtree(self.work, ignore_errors=True)
+        with contextlib.suppress(OSError):
+            for path in self.made:
+                path.rmdir()
+
+    def find(self, digest: str) -> Path | None:
+        """The file of a blob that is there already, if its bytes have this digest."""
+        for path in (folder / blob_name(digest) for folder in (self.work, self.home) if folder):
+            if path.is_file():
+                with open(path, "rb") as file:
+                    if hashlib.file_digest(file, path.parent.name).hexdigest() == path.name:
+                        return path
+        return None
+
+    def put(self, name: str, pieces: Iterable[bytes]) -> None:
+        (self.work / name).parent.mkdir(parents=True, exist_ok=True)
+        with open(self.work / name, "wb") as file:
+            file.writelines(pieces)
+
+    def add(self, digest: str, pieces: Iterable[bytes]) -> None:
+        """A document or a blob. One that is there already is not written again."""
+        if not self.find(digest):
+            self.put(blob_name(digest), pieces)
+
+    def take(self, digest: str) -> None:
+        """What was downloaded becomes the file of this digest; whether it has that digest, `find` sees."""
+        path = self.work / blob_name(digest)
+        path.parent.mkdir(parents=True, exist_ok=True)
+        (self.work / "download").rename(path)
+
+    def finish(self, reference: str, signed: str, signatures: dict[str, list[list[bytes]]]) -> None:
+        """Writes the signatures (of each its manifest and its blobs) by where they were found, and what names the image; then has all on the disk."""
+        (self.work / "download").unlink(missing_ok=True)
+        notes = {NAME: self.tag or reference, f"{OURS}reference": reference, f"{OURS}signed-digest": signed}
+        for source, manifests in signatures.items():
+            notes[OURS + source] = " ".join(digest_of(documents[0]) for documents in manifests)
+            for content in itertools.chain(*manifests):
+                self.add(digest_of(content), [content])
+        others = [entry for entry in self.index["manifests"] if entry["annotations"].get(NAME) != notes[NAME]]
+        self.put("oci-layout", [b'{"imageLayoutVersion":"1.0.0"}'])
+        self.put("index.json", [json.dumps(self.index | {"manifests": [*others, self.manifest | {"annotations": notes}]}).encode()])
+        if self.form == "docker-archive":  # as docker save writes it: a layout with one file more
+            manifest, name = json.loads((self.work / blob_name(self.manifest["digest"])).read_bytes()), reference.partition("@")[0]
+            config, *layers = (blob_name(blob["digest"]) for blob in (manifest["config"], *manifest["layers"]))
+            tag = self.tag or (name if ":" in name.rpartition("/")[2] else f"{name}:latest")
+            self.put("manifest.json", [json.dumps([{"Config": config, "RepoTags": [tag], "Layers": layers}]).encode()])
+        files = sorted(path for path in self.work.rglob("*") if path.is_file())
+        if self.form != "oci":
+            with tarfile.open(self.work / "archive", "w") as archive:
+                for path in files:
+                    archive.add(path, path.relative_to(self.work))
+        for path in (*self.work.rglob("*"), self.work):
+            sync(path)
+
+    def place(self) -> None:
+        """Moves it to its place, the index last, so that it names nothing that is not there."""
+        if self.home:
+            for path in sorted(self.work.rglob("*"), key=lambda path: path.name == "index.json"):
+                if path.is_file():
+                    place = self.home / path.relative_to(self.work)
+                    place.parent.mkdir(parents=True, exist_ok=True)
+                    path.rename(place)
+                    sync(place.parent)
+        elif os.path.lexists(self.target):
+            raise OSError(f"{self.target} exists now, and is not replaced")
+        else:
+            (self.work if self.form == "oci" else self.work / "archive").rename(self.target)
+        sync(self.work.parent)
+
+
+class Stored:
+    """A layout that answers as the registry that its image came from, so that the core decides it again with no network."""
+
+    def __init__(self, folder: Path, tag: str | None) -> None:
+        entries = [entry for entry in read_index(folder)["manifests"] if tag in (None, entry["annotations"].get(NAME))]
+        if len(entries) != 1:
+            raise ValueError(f"{folder} has {len(entries)} images{f' named {tag}' if tag else ''}; name one by --tag")
+        notes, self.folder, self.manifest = entries[0]["annotations"], folder, entries[0]["digest"]
+        self.digest = notes.get(f"{OURS}signed-digest", self.manifest)
+        self.reference = re.sub("(:[^/]*)?(@.*)?$", "", notes.get(f"{OURS}reference", "localhost/image")) + f"@{self.digest}"
+        self.tagged, self.referrers = ([digest for digest in notes.get(OURS + source, "").split() if self.path(digest).is_file()]
+                                       for source in ("tag", "referrers"))
+        self.statuses, self.failure, self.signed = dict[str, int](), "", False
+        self.body: BinaryIO = io.BytesIO()
+
+    def clear(self) -> None:
+        """There is no progress to show."""
+
+    def reply(self, frame: Frame) -> tuple[Frame, bytes]:
+        if frame["frame"] == "more":
+            data = self.body.read(PIECE)
+            return ({"frame": "piece", "bytes": len(data)}, data) if data else ({"frame": "end"}, b"")
+        *_, kind, name = frame["url"].split("/")
+        if name.endswith(".sig") and self.tagged:
+            name = self.tagged[0]
+        path, status, self.body = self.path(name), 200, io.BytesIO()
+        if kind == "referrers":
+            entries = [{"mediaType": MANIFEST, "digest": digest, "size": self.path(digest).stat().st_size} for digest in self.referrers]
+            self.body = io.BytesIO(json.dumps({"schemaVersion": 2, "mediaType": INDEX, "manifests": entries}).encode())
+        elif name and path.is_file():
+            self.body = open(path, "rb")
+        elif name:
+            status = 404
+        self.statuses[frame["url"]] = status
+        return {"frame": "answer", "status": status, "headers": []}, b""
+
+    def path(self, name: str) -> Path:
+        return self.folder / (blob_name(name) if DIGEST.fullmatch(name) else "absent")

@@ -1,0 +1,121 @@
+"""What is trusted for one pull: a rule made of options, or the one of a policy file (docs/POLICY.md) that covers the image."""
+import base64
+import re
+from pathlib import Path
+from typing import Any
+
+import yaml as untyped_yaml
+
+from host.certificates import Identity, LogKey, TrustedRoot, key_id
+from host.keys import public_keys
+
+yaml: Any = untyped_yaml
+COSIGN_SIGN = "https://sigstore.dev/cosign/sign/v1"
+# the types of a policy's members: [T] is a list of T, and {str: T} a mapping with members of any name
+IDENTITY = {"subject": str, "subjectRegExp": str, "issuer": str, "issuerRegExp": str}
+RULE = {"images": str, "keys": [str], "identities": [IDENTITY], "annotations": {str: str}, "trustedRoot": str, "logKeys": [str], "requireLog": bool,
+        "predicateTypes": [str]}
+NAMES = {str: "a string (write it in quotes)", int: "an integer", bool: "true or false", list: "a list", dict: "a mapping"}
+
+
+class Rule:
+    """Who may sign: any of the keys or identities, with all of the annotations; the known logs, and whether a key's signature must be in one."""
+
+    def __init__(self, keys: list[Path], identities: list[Identity], annotations: dict[str, str], trusted_root: Path | None = None,
+                 log_keys: list[Path] | None = None, require_log: bool = False, predicates: list[str] | None = None) -> None:
+        self.keys = {key: str(path) for path in keys for key in public_keys(path)}
+        self.identities, self.annotations, self.require_log = identities, annotations, require_log
+        self.predicates = [COSIGN_SIGN, *(predicates or [])]
+        self.root = TrustedRoot(trusted_root) if trusted_root else None
+        logs = {key_id(key): LogKey(key) for path in log_keys or [] for key in public_keys(path)}
+        self.logs = logs | (self.root.logs if self.root else {})
+        if not keys and not identities:
+            raise ValueError("nobody is trusted: give a key, or an identity with a trusted root")
+        if identities and not self.root:
+            raise ValueError("an identity needs the trusted root under which it is vouched for (sigstore's trusted_root.json)")
+        if (require_log or identities) and not self.logs:
+            raise ValueError("a log entry is required, and no log is known: give a log's key or a trusted root that has one")
+
+    def settings(self) -> dict[str, Any]:
+        """Members of the core's settings. An identity without patterns, if nobody else may sign, becomes one of the core's constraints."""
+        alone = self.identities if len(self.identities) == 1 and not self.keys else []
+        names = [(str(one.exact[0]), one.exact[1]) for one in alone if None not in one.exact]
+        return {"keys": [base64.b64encode(key).decode() for key in self.keys],
+                "constraints": [{"annotations": self.annotations}] + [{"url" if "://" in one else "email": one, "issuer": by} for one, by in names],
+                "log_keys": {name: base64.b64encode(log.key).decode() for name, log in self.logs.items()}}
+
+
+def annotations_of(pairs: list[str]) -> dict[str, str]:
+    """Annotations from NAME=VALUE; ValueError if a name is given with two values, which cannot both hold."""
+    found: dict[str, str] = {}
+    for name, equals, value in (pair.partition("=") for pair in pairs):
+        if not name or not equals or found.setdefault(name, value) != value:
+            raise ValueError(f"the annotation {name}{equals}{value} is not NAME=VALUE, or {name} is given with two values, which cannot both hold")
+    return found
+
+
+def repository_of(reference: str) -> str:
+    """Registry and repository of a reference, as the core parses it."""
+    first, slash, rest = reference.partition("/")
+    registry, path = (first.lower(), rest) if slash and ("." in first or ":" in first or first == "localhost") else ("docker.io", reference)
+    path = path.partition("@")[0].partition(":")[0]
+    return f"docker.io/{'' if '/' in path else 'library/'}{path}" if registry in ("docker.io", "index.docker.io") else f"{registry}/{path}"
+
+
+class Policy:
+    """A policy file, read whole: its rules in order, each with the repositories that it covers."""
+
+    def __init__(self, path: Path) -> None:
+        self.path = path
+        try:
+            text = path.read_text(encoding="utf-8")
+            text = text.replace("\t", " ") if text.lstrip().startswith("{") else text  # JSON may be indented by tabs, and YAML may not
+            policy = self.value(yaml.compose(text, yaml.SafeLoader), {"version": int, "rules": [RULE]}, "the policy")
+        except yaml.YAMLError as error:
+            raise self.error(error, str(getattr(error, "problem", error)).partition("\n")[0]) from None
+        except (UnicodeDecodeError, RecursionError) as error:
+            raise self.error(None, str(error)) from None
+        if policy.get("version") != "1" or not policy.get("rules"):
+            raise self.error(None, "it needs `version: 1`, and `rules` with at least one rule")
+        self.rules = [self.rule(number, parts) for number, parts in enumerate(policy["rules"], 1)]
+
+    def error(self, place: Any, problem: str) -> ValueError:
+        mark = getattr(place, "start_mark", None) or getattr(place, "problem_mark", None)
+        return ValueError(f"{self.path}{f', line {mark.line + 1}' if mark else ''} is not a policy: {problem}")
+
+    def value(self, node: Any, form: Any, name: str) -> Any:
+        """The value of a node that has the form."""
+        kind = form if isinstance(form, type) else type(form)
+        if kind is list and isinstance(node, yaml.SequenceNode):
+            return [self.value(item, form[0], name) for item in node.value]
+        if kind is dict and isinstance(node, yaml.MappingNode):
+            found: dict[str, Any] = {}
+            for key, item in node.value:
+                member = str(key.value)
+                if member in found or member not in form and str not in form:
+                    raise self.error(key, f"{member} is given twice" if member in found else f"{name} has no member {member}")
+                found[member] = self.value(item, form.get(member, str), member)
+            return found
+        if isinstance(node, yaml.ScalarNode) and node.tag == f"tag:yaml.org,2002:{kind.__name__}":
+            return yaml.SafeLoader.bool_values[node.value.lower()] if kind is bool else str(node.value)
+        raise self.error(node, f"{name} is not {NAMES[kind]}")
+
+    def rule(self, number: int, parts: dict[str, Any]) -> tuple[str, Rule]:
+        images = parts.get("images", "").rstrip("/")
+        if repository_of(f"{images}/x").partition("/")[0] != images.partition("/")[0] or re.search("//|/.*[@:]", images):
+            raise self.error(None, f"`images` of rule {number} is not a registry, or a registry and a path, without tag and digest")
+        keys, log_keys = ([self.path.parent / name for name in parts.get(member, [])] for member in ("keys", "logKeys"))
+        root = self.path.parent / parts["trustedRoot"] if "trustedRoot" in parts else None
+        try:
+            identities = [Identity(*map(one.get, IDENTITY)) for one in parts.get("identities", [])]
+            rest = [parts.get("requireLog", False), parts.get("predicateTypes")]
+            return images, Rule(keys, identities, parts.get("annotations", {}), root, log_keys, *rest)
+        except (OSError, ValueError) as error:
+            raise self.error(None, f"rule {number} ({images}): {error}") from None
+
+    def for_reference(self, reference: str) -> Rule:
+        """The first rule that covers the repository; ValueError if none does."""
+        for images, rule in self.rules:
+            if f"{repository_of(reference)}/".startswith(f"{images}/"):
+                return rule
+        raise ValueError(f"{reference} is covered by no rule of {self.path}")

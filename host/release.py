@@ -1,0 +1,63 @@
+"""Which program runs: one that is named, installed or built here, else the released one, unpacked once its checksum is verified."""
+import hashlib
+import lzma
+import os
+import tempfile
+from pathlib import Path
+
+VERSION = "0.1.0"
+TOP = Path(__file__).resolve().parent.parent
+DIST = TOP / "dist"
+
+
+def made_of() -> dict[str, bytes]:
+    """All that the released programs are made of: HANDLES, and of each of their crates the line in crates.txt and the files."""
+    lines = {line.split(":")[0].split()[0]: line for line in (TOP / "crates.txt").read_text().splitlines() if line[:1].strip(" #")}
+    names, found = ["pull_program", "roksnaep_core"], {"HANDLES": (TOP / "HANDLES").read_bytes()}
+    for name in names:  # which grow; a library that is not in crates.txt is the kit's
+        names += [below for below in lines[name].partition(":")[2].split() if below in lines and below not in names]
+        files = (path for part in ("src", "specs", "proofs") for path in (TOP / "crates" / name / part).rglob("*") if path.is_file())
+        found |= {f"crates.txt {name}": lines[name].encode()} | {str(path.relative_to(TOP)): path.read_bytes() for path in files}
+    return found
+
+
+def sources(kit: str) -> str:
+    """One checksum over them and the version of the kit."""
+    lines = sorted(f"{hashlib.sha256(content).hexdigest()}  {name}\n" for name, content in (made_of() | {"kit": kit.encode()}).items())
+    return hashlib.sha256("".join(lines).encode()).hexdigest()
+
+
+def unpacked(name: str) -> Path:
+    """The released program, in the user's cache."""
+    packed, listed = DIST / f"{name}-x86_64.xz", (DIST / "SHA256SUMS").read_text().split()
+    digest = listed[listed.index(packed.name) - 1]
+    to = Path(os.environ.get("XDG_CACHE_HOME") or Path.home() / ".cache") / "roksnaep" / digest / name
+    if not to.exists():
+        if hashlib.sha256(packed.read_bytes()).hexdigest() != digest:
+            raise ValueError(f"{packed} does not have its checksum in SHA256SUMS; restore both: git checkout {DIST}")
+        to.parent.mkdir(mode=0o700, parents=True, exist_ok=True)
+        with tempfile.NamedTemporaryFile(dir=to.parent, delete=False) as file:
+            file.write(lzma.decompress(packed.read_bytes()))
+            file.flush()
+            os.fsync(file.fileno())
+        os.chmod(file.name, 0o755)
+        os.rename(file.name, to)
+    return to
+
+
+def program(name: str) -> tuple[Path, str]:
+    """The program, and which one it is."""
+    named, crate = os.environ.get("ROKSNAEP_CORE") if name == "roksnaep-core" else None, name.replace("-", "_")
+    for path, which in ((Path(named or ""), "named by ROKSNAEP_CORE"), (TOP / "bin" / name, "installed"), (TOP / "crates" / crate / "out" / crate, "built here")):
+        if path.is_file() or named:
+            return path, which
+    if os.uname().machine != "x86_64" or not DIST.is_dir():
+        raise ValueError(f"there is no {name} here; build it from its sources (make core program), or name a core by ROKSNAEP_CORE")
+    return unpacked(name), "released"
+
+
+def described(name: str) -> str:
+    """The same for a reader: of a released program, whether it is made of the sources that are here."""
+    path, which = program(name)
+    recorded, kit = (DIST / "SOURCES").read_text().strip().split(" ", 1) if which == "released" else ("", "")
+    return f"{path} ({which}{kit and (', of these sources' if sources(kit) == recorded else ', of older sources than these')})"
