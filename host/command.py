@@ -1,163 +1,273 @@
-"""Pulls a container image where a signature that you trust stands for it."""
-# the command: its options, and the conversation with the core
+"""Pulls a container image only if it has a signature that you trust."""
 import argparse
-import base64
 import contextlib
 import json
+import math
+import os
 import platform
 import re
-import shutil
 import signal
 import sys
 import time
+import tomllib
 from pathlib import Path
-from typing import Any
+from typing import Any, NoReturn
 
-from host.core import Core, Frame, find_core
-from host.files import Layout, kept_credentials, public_key, verifies
-from host.network import Network, is_loopback
+from host.certificates import Identity
+from host.conversation import Exchanges, Registry, converse
+from host.core import Core, Frame
+from host.credentials import credentials
+from host.layout import Layout, Stored
+from host.network import Access, Limits, Network, is_loopback
+from host.policy import Policy, Rule, annotations_of, repository_of
 from host.refusals import Refusals
+from host.release import VERSION, described
+from host.signatures import Signatures
 
 OCI, DOCKER = "application/vnd.oci.image.layer.", "application/vnd.docker.image.rootfs."
 LAYERS = [OCI + "v1.tar", OCI + "v1.tar+gzip", OCI + "v1.tar+zstd", DOCKER + "diff.tar", DOCKER + "diff.tar.gzip",
-          OCI + "nondistributable.v1.tar", OCI + "nondistributable.v1.tar+gzip", DOCKER + "foreign.diff.tar.gzip",
-          "application/vnd.wasm.content.layer.v1+wasm"]
+          OCI + "nondistributable.v1.tar", OCI + "nondistributable.v1.tar+gzip", DOCKER + "foreign.diff.tar.gzip"]
 MACHINE = {"x86_64": "amd64", "aarch64": "arm64", "armv7l": "arm", "i686": "386"}.get(platform.machine(), platform.machine())
-STATUSES = "Ends with 0: pulled, 1: refused, 2: wrong use, 3: no reference, 4 to 6: it was not decided or not written."
-ENDS = {3: "is no reference that reads, or --platform is no OS/ARCH", 5: "is not pulled: the core could not write", 6: "is not pulled: memory was wanting"}
+SIGNALS = (signal.SIGINT, signal.SIGTERM, signal.SIGHUP, signal.SIGALRM)
+STATUSES = "exit status: 0 success, 1 refused, 2 wrong usage, 3 invalid reference, 4 stopped or failed, 5 not written, 6 out of memory"
+OUTCOMES = {1: "refused", 2: "usage", 3: "reference", 4: "stopped", 5: "unwritten", 6: "memory"}
+ENDS = {3: "the reference is invalid, or --platform is not OS/ARCH; write registry/name:tag", 5: "the core could not write",
+        6: "out of memory; run it with more"}
 
-OPTIONS: dict[str, dict[str, Any]] = {
-    "word": dict(choices=["pull", "verify"], help="pull: into an OCI image layout; verify: the same checks, nothing is written"),
-    "reference": dict(help="such as registry.example/team/app:1.0, or with @sha256:.. behind"),
-    "--out": dict(type=Path, metavar="DIR", help="where pull puts it, not there or empty (default: the image's name)"),
-    "--key": dict(action="append", type=Path, required=True, metavar="FILE", help="a public key (PEM) that may sign; repeatable"),
-    "--annotation": dict(action="append", default=[], metavar="NAME=VALUE", help="what the signature says; repeatable"),
-    "--platform": dict(default=f"linux/{MACHINE}", metavar="OS/ARCH", help="which image of an index (default: %(default)s)"),
-    "--username": dict(help="for the registry (default: the credentials that ~/.docker/config.json keeps for it)"),
-    "--password-stdin": dict(action="store_true", help="reads the password from standard input"),
-    "--http": dict(action="store_true", help="asks the registry over http, as one on this machine is asked"),
-    "--ca": dict(metavar="FILE", help="certificates (PEM) that are trusted beside the system's; asks over https"),
-    "--allow-host": dict(action="append", default=[], metavar="HOST", help="asks the registry and these; repeatable"),
-    "--timeout": dict(type=float, default=30, metavar="S", help="seconds to connect and between bytes (default: 30)"),
-    "--deadline": dict(type=int, default=0, metavar="S", help="seconds for the whole command (default: any)"),
-    "--json": dict(action="store_true", help="writes how it ended as a JSON object"),
-    "-v": dict(action="store_true", dest="verbose", help="writes the report of a refusal, line by line"),
-}
+
+class Usage(Exception):
+    """Why the command cannot begin."""
+
+
+class Refused(Exception):
+    """Why nothing is requested."""
+
+
+class Stopped(BaseException):
+    """By a signal, or at the deadline."""
+
+
+class Parser(argparse.ArgumentParser):
+    def error(self, message: str) -> NoReturn:
+        raise Usage(f"{message}; see {self.prog} --help")
+
+
+class Version(argparse.Action):
+    def __call__(self, parser: argparse.ArgumentParser, *_: object) -> NoReturn:
+        try:
+            print(f"roksnaep {VERSION}, core {described('roksnaep-core')}")
+        except (OSError, ValueError) as error:
+            raise Usage(str(error)) from None
+        parser.exit()
+
+
+def seconds(text: str) -> float:
+    if not 0 <= float(text) <= 1e7:
+        raise ValueError("not between 0 and 10000000")
+    return float(text)
+
+
+def add_option(group: Any, name: str, of: dict[str, Any]) -> None:
+    names = [of.pop("short")] if "short" in of else []
+    if of.pop("flag", False):
+        of["action"] = "store_true"
+    if of.pop("many", False):
+        of |= {"action": "append", "default": [], "help": of["help"] + "; repeatable"}
+    if "type" in of:
+        of["type"] = {"path": Path, "seconds": seconds, "bytes": int}[of["type"]]
+    group.add_argument(*names, f"--{name}", **of)
 
 
 def parser() -> argparse.ArgumentParser:
-    made = argparse.ArgumentParser(prog="roksnaep", description=__doc__, epilog=STATUSES)
-    made.add_argument("--version", action="version", version="roksnaep 0.1.0")
-    for name, rest in OPTIONS.items():
-        made.add_argument(name, **rest)
+    """The command's options, by host/options.toml."""
+    table = tomllib.loads((Path(__file__).parent / "options.toml").read_text())
+    made = Parser(prog="roksnaep", description=__doc__, epilog=STATUSES, allow_abbrev=False)
+    made.add_argument("--version", action=Version, nargs=0, help="prints the version, and which core runs")
+    with contextlib.suppress(ImportError):
+        __import__("shtab").add_argument_to(made, "--print-completion", help="writes the completion script of a shell")
+    words = made.add_subparsers(dest="word", required=True, metavar="pull|verify|check", help="each has its own --help")
+    for word, of in ((word, table[word]) for word in ("pull", "verify", "check")):
+        description = f"{of['help'][0].upper()}{of['help'][1:]}."
+        one = words.add_parser(word, help=of["help"], usage=f"roksnaep {word} {of['place']} [options]", description=description,
+                               epilog=f"{of['examples']}\n{STATUSES}", formatter_class=argparse.RawDescriptionHelpFormatter, allow_abbrev=False)
+        one.add_argument("place", metavar=of["place"])
+        for title in of["groups"]:
+            group = one.add_argument_group(title)
+            for name, option in table["options"][title].items():
+                add_option(group, name, dict(option))
     return made
 
 
-def registry_of(reference: str) -> str:
-    first, slash, _ = reference.partition("/")
-    return first if slash and ("." in first or ":" in first or first == "localhost") else "docker.io"
+def rule_by(option: argparse.Namespace, reference: str) -> Rule:
+    """Who may have signed, by --policy or by the other options."""
+    subjects = [(text, None) for text in option.certificate_identity] + [(None, text) for text in option.certificate_identity_regexp]
+    issuers = [(text, None) for text in option.certificate_oidc_issuer] + [(None, text) for text in option.certificate_oidc_issuer_regexp]
+    if not option.policy:
+        nobody = [(None, None)] if subjects or issuers else []  # of which the identity says what is missing
+        identities = [Identity(*subject, *issuer) for subject in subjects or nobody for issuer in issuers or nobody]
+        annotations = annotations_of(option.annotation)
+        return Rule(option.key, identities, annotations, option.trusted_root, option.log_key, option.require_log, option.predicate_type)
+    if any((subjects, issuers, option.key, option.annotation, option.trusted_root, option.log_key, option.require_log, option.predicate_type)):
+        raise Usage("--policy stands alone: write keys, identities, annotations and logs into it")
+    policy = Policy(option.policy)
+    try:
+        return policy.for_reference(reference)
+    except ValueError as error:
+        raise Refused(f"{error}; add a rule for it") from None
 
 
-def settings(option: argparse.Namespace) -> Frame:
-    if option.password_stdin != bool(option.username):
-        raise ValueError("--username and --password-stdin go together")
-    if option.out and option.word == "verify":
-        raise ValueError("--out is for pull")
-    if not all("=" in text for text in option.annotation):
-        raise ValueError("--annotation wants NAME=VALUE")
-    registry = registry_of(option.reference)
-    credentials = (option.username, sys.stdin.read().rstrip("\r\n")) if option.username else kept_credentials(registry)
-    return {
-        "frame": "settings", "moment": int(time.time()), "reference": option.reference, "accepted": LAYERS, "log_keys": {},
-        "protocol": "http" if option.http or is_loopback(registry) and not option.ca else "https", "platform": option.platform,
-        "auth": {"basic": list(credentials)} if credentials else "anonymous", "blobs": option.word == "pull",
-        "keys": [base64.b64encode(public_key(path)).decode() for path in option.key],
-        "constraints": [{"annotations": dict(text.split("=", 1) for text in option.annotation)}],
-    }
+class Run:
+    """One run of the command, from its options to its end."""
 
+    def __init__(self, option: argparse.Namespace, end: float) -> None:
+        """Reads all that the options name, so that what cannot work is refused before the first request."""
+        self.option = option
+        self.layout: Layout | None = None
+        self.settings: Frame = {"frame": "settings", "accepted": [*LAYERS, *option.type], "blobs": option.word == "pull"}
+        self.registry: Registry
+        if option.word == "check":
+            stored = Stored(Path(option.place), option.tag)
+            if option.policy and not option.reference:
+                raise Usage("check --policy needs --reference, since a layout cannot say which rule holds for it")
+            self.rule, self.registry = rule_by(option, option.reference or stored.reference), stored
+            self.settings |= {"reference": stored.reference, "protocol": "https", "platform": {"digest": stored.manifest}, "auth": "anonymous"}
+        else:
+            self.rule, self.registry = rule_by(option, option.place), self.network(end)
+        self.settings |= self.rule.settings()
+        self.core = Core()
 
-def converse(core: Core, first: Frame, network: Network, layout: Layout | None) -> Frame:
-    """Answers the core's frames until one says how the pull ended."""
-    while True:
-        frame = core.read()
-        body = core.body(frame)
-        match frame["frame"]:
-            case "begin":
-                core.write(first)
-            case "request" | "more":
-                core.write(*network.reply(frame))
-            case "verify":
-                key, signature = (base64.b64decode(frame[name]) for name in ("key", "signature"))
-                core.write({"frame": "verified", "valid": verifies(key, b"".join(body), signature)})
-            case "judge":
-                core.write({"frame": "vouched", "vouched": None})
-            case "document" | "blob" if layout:
-                layout.add(frame["kind"], frame["media_type"], frame["digest"], body)
-            case "pulled" | "refused":
-                return frame
-        for _ in body:
-            pass
+    def network(self, end: float) -> Network:
+        option, repository = self.option, repository_of(self.option.place)
+        registry = repository.partition("/")[0]
+        if option.password_stdin != bool(option.username):
+            raise Usage("--username and --password-stdin go together")
+        auth = {"basic": [option.username, sys.stdin.read().rstrip("\r\n")]} if option.username else credentials(repository, option.authfile)
+        plain = option.http or is_loopback(registry) and not (option.ca or option.client_cert)
+        self.settings |= {"reference": option.place, "protocol": "http" if plain else "https", "auth": auth,
+                          "platform": option.platform or f"linux/{MACHINE}"}
+        access = Access(registry, plain, tuple(option.allow_host), option.ca, option.client_cert, option.client_key, option.proxy)
+        return Network(access, Limits(connect=option.timeout, idle=option.timeout, end=end, document=option.limit))
+
+    def open_layout(self) -> Layout:
+        option, name = self.option, re.split("[:@]", self.option.place.rpartition("/")[2])[0]
+        if not (option.out or name.strip(".")):
+            raise Usage("the reference does not end with a name; give --out")
+        if option.digest_file and not os.access(option.digest_file.absolute().parent, os.W_OK):
+            raise Usage(f"{option.digest_file} cannot be written")
+        layout = self.layout = Layout(option.out or Path(name if option.format == "oci" else f"{name}.tar"), option.format, option.tag)
+        return layout
+
+    def decide(self) -> tuple[int, str, Frame]:
+        """The status, the sentence and the core's last frame. If a token expired in a run of the core, another one goes on from there."""
+        signatures, exchanges = Signatures(self.rule), Exchanges(self.registry, self.layout)
+        end = self.converse(signatures, exchanges)
+        while "UnauthorizedError" in end.get("report", "") and exchanges.accepted:
+            self.core, signatures, exchanges = Core(), Signatures(self.rule), Exchanges(self.registry, self.layout)
+            end = self.converse(signatures, exchanges)
+            if not exchanges.kept:
+                break
+        name, signer = self.option.place, signatures.signer(end.get("signature", ""))
+        if end["frame"] == "ended":
+            return (end["status"] if end["status"] in ENDS else 4), f"failed {name}: {ENDS.get(end['status'], 'the core ended unexpectedly')}", {}
+        if end["frame"] == "refused":
+            return 1, Refusals(self.registry.statuses, self.registry.failure, signatures.why).sentence(name, end["report"]), end
+        if self.layout:
+            self.layout.finish(name, end["digest"], exchanges.signatures(end["signature"]))
+        done = f"pulled {name} to {self.layout.target}" if self.layout else f"{'checked' if self.option.word == 'check' else 'verified'} {name}"
+        return 0, f"{done}: {end['digest']}, signed by {end['signature']}{signer and f' ({signer})'}", end | {"signer": signer}
+
+    def converse(self, signatures: Signatures, exchanges: Exchanges) -> Frame:
+        """The core's last frame, or one named `ended` with its status."""
+        try:
+            return converse(self.core, self.settings | {"moment": int(time.time())}, exchanges, signatures)
+        except (BrokenPipeError, LookupError, TypeError, ValueError):
+            return {"frame": "ended", "status": self.core.end()}
+        finally:
+            self.registry.clear()
+            self.core.process.kill()
 
 
 def printable(text: str) -> str:
-    """The text as a terminal may have it: what a registry wrote moves no cursor."""
-    return "".join(c if c.isprintable() or c == "\n" else "?" for c in text)
+    """The text as a terminal may have it: nothing that a registry or a reference has in it moves the cursor."""
+    return "".join(c if c.isprintable() else "?" for c in text)
 
 
-def tell(option: argparse.Namespace, outcome: str, sentence: str, end: Frame) -> None:
-    """The sentence, to standard error where it is a refusal; or all as one JSON object."""
-    if option.json:
-        rest = {name: value for name, value in end.items() if name != "frame"}
-        print(json.dumps({"outcome": outcome, "reference": option.reference, "sentence": sentence} | rest))
+def hold() -> None:
+    """From here on no signal stops the command, so that what is said of its end stays true."""
+    for number in SIGNALS:
+        signal.signal(number, signal.SIG_IGN)
+
+
+def stop(number: int, _: object) -> NoReturn:
+    hold()
+    raise Stopped("at the --deadline" if number == signal.SIGALRM else f"by {signal.Signals(number).name}")
+
+
+def result(option: argparse.Namespace) -> tuple[int, str, Frame]:
+    """The status, the sentence, and what else the JSON object has."""
+    with contextlib.ExitStack() as after:
+        try:
+            run = Run(option, time.monotonic() + option.deadline if option.deadline else math.inf)
+            after.callback(run.core.process.kill)
+            if option.word == "pull":
+                signal.pthread_sigmask(signal.SIG_BLOCK, SIGNALS)  # until its folder has somebody who removes it
+                after.callback(run.open_layout().close)
+                after.callback(hold)
+                signal.pthread_sigmask(signal.SIG_UNBLOCK, SIGNALS)
+        except (OSError, ValueError) as error:
+            raise Usage(str(error)) from None
+        status, sentence, rest = run.decide()
+        if status == 0 and run.layout:
+            hold()
+            run.layout.place()
+            if option.digest_file:
+                option.digest_file.write_text(rest["digest"])
+    return status, sentence, rest
+
+
+def tell(words: list[str], place: str, status: int, sentence: str, rest: Frame) -> None:
+    if "--json" in words:
+        outcome = OUTCOMES.get(status) or sentence.partition(" ")[0]
+        more = {name: value for name, value in rest.items() if name != "frame"}
+        print(json.dumps({"outcome": outcome, "status": status, "reference": place, "sentence": sentence} | more), flush=True)
     else:
-        print(printable(sentence).replace("\n", "?"), file=sys.stderr if outcome == "refused" else sys.stdout)
-    if option.verbose and outcome == "refused":
-        print(printable(end["report"]), end="", file=sys.stderr)
-
-
-def run(core: Core, option: argparse.Namespace, first: Frame, layout: Layout | None) -> int:
-    """The status of a pull by a core that has just begun."""
-    network = Network(registry_of(option.reference), first["protocol"] == "http", option.allow_host, option.timeout, option.ca)
-    try:
-        end = converse(core, first, network, layout)
-        if end["frame"] == "refused":
-            sentence = Refusals(network.statuses, network.failure).sentence(option.reference, end["report"])
-            tell(option, "refused", sentence, end)
-            return 1
-        if layout:
-            layout.finish(option.reference, end["digest"])
-        outcome, place = ("pulled", f" to {layout.target}") if layout else ("verified", "")
-        tell(option, outcome, f"{option.reference} is {outcome}{place}: {end['digest']}, signed by {end['signature']}", end)
-        return 0
-    except (BrokenPipeError, LookupError, TypeError, ValueError):
-        status = core.end()
-        print(f"{option.reference} {ENDS.get(status, f'is not pulled: the core ended with {status}')}", file=sys.stderr)
-        return status if status in ENDS else 4
-    except OSError as error:
-        print(f"{option.reference} is not pulled: {error}", file=sys.stderr)
-        return 5
-
-
-def stop(number: int, _: object) -> None:
-    print(f"roksnaep: stopped{' at the --deadline' if number == signal.SIGALRM else ''}", file=sys.stderr)
-    raise SystemExit(4)
+        print(printable(sentence), file=sys.stderr if status else sys.stdout, flush=True)
+    if {"-v", "--verbose"} & {*words} and "report" in rest:
+        print(*(printable(line) for line in rest["report"].split("\n")), sep="\n", end="", file=sys.stderr, flush=True)
 
 
 def main(words: list[str]) -> int:
-    usage = parser()
-    option = usage.parse_args(words)
-    for number in (signal.SIGINT, signal.SIGTERM, signal.SIGALRM):
-        signal.signal(number, stop)
-    signal.alarm(option.deadline)
+    """Runs the command. However it ends, there is one sentence, or one JSON object, and a status."""
+    place, rest = "", dict[str, Any]()
+    for name in ("stdin", "stdout", "stderr"):
+        if getattr(sys, name) is None:  # closed by the caller
+            setattr(sys, name, open(os.devnull, "r+"))
     try:
-        with contextlib.ExitStack() as after:
-            first, layout = settings(option), None
-            if option.word == "pull":
-                layout = Layout(option.out or Path(re.split("[:@]", option.reference.rpartition("/")[2])[0]))
-                after.callback(shutil.rmtree, layout.folder, ignore_errors=True)
-            core = Core(find_core())
-            after.callback(core.process.kill)
-            status = run(core, option, first, layout)
-        return status
-    except (OSError, ValueError) as error:
-        usage.error(str(error))
+        for number in SIGNALS:
+            if signal.getsignal(number) != signal.SIG_IGN:  # as nohup has it
+                signal.signal(number, stop)
+        option = parser().parse_args(words)
+        place = option.place
+        signal.setitimer(signal.ITIMER_REAL, option.deadline)
+        status, sentence, rest = result(option)
+    except Usage as error:
+        status, sentence = 2, f"roksnaep: {error}"
+    except Refused as error:
+        status, sentence = 1, f"refused {place}: {error}"
+    except Stopped as error:
+        status, sentence = 4, f"stopped {place}: {error}"
+    except MemoryError:
+        status, sentence = 6, f"failed {place}: {ENDS[6]}"
+    except OSError as error:
+        status, sentence = 5, f"failed {place}: {error}"
+    except Exception as error:  # whatever was not foreseen
+        status, sentence = 4, f"failed {place}: {type(error).__name__}: {error}"
+    hold()
+    try:
+        tell(words, place, status, sentence, rest)
+    except OSError as error:  # nobody reads it
+        with contextlib.suppress(OSError):
+            print(printable(f"{sentence}; but this could not be written: {error}"), file=sys.stderr)
+        os.dup2(os.open(os.devnull, os.O_WRONLY), 1)
+        return status or 5
+    return status

@@ -2,39 +2,33 @@
 import json
 import os
 import subprocess
-from pathlib import Path
 from typing import Any, Iterator
+
+from host.release import program
 
 Frame = dict[str, Any]
 LINE, PIECE = 1 << 24, 1 << 19
 
 
-def find_core() -> str:
-    """The program that ROKSNAEP_CORE names, else the one beside the command, else the one that was built."""
-    top = Path(__file__).resolve().parent.parent
-    beside, built = top / "bin/roksnaep-core", top / "crates/roksnaep_core/out/roksnaep_core"
-    place = os.environ.get("ROKSNAEP_CORE") or str(beside if beside.exists() else built)
-    if not os.access(place, os.X_OK):
-        raise ValueError(f"there is no core at {place}: make core builds one, and ROKSNAEP_CORE may name one")
-    return place
-
-
 class Core:
     """A core that runs. A body is handed on in pieces, so that none is ever held whole."""
 
-    def __init__(self, program: str) -> None:
-        pipe = subprocess.PIPE
-        self.process = subprocess.Popen([program], stdin=pipe, stdout=pipe, stderr=subprocess.DEVNULL)
+    def __init__(self) -> None:
+        (path, which), pipe = program("roksnaep-core"), subprocess.PIPE
+        if not os.access(path, os.X_OK):
+            raise ValueError(f"{path} is not a program ({which}); make core builds one, and ROKSNAEP_CORE can name one")
+        # in a session of its own, so that Ctrl-C reaches the command alone
+        self.process = subprocess.Popen([path], stdin=pipe, stdout=pipe, stderr=subprocess.DEVNULL, start_new_session=True)
         assert self.process.stdin and self.process.stdout
         self.input, self.output = self.process.stdin, self.process.stdout
 
     def read(self) -> Frame:
-        """The next frame; ValueError where the core ended."""
+        """The next frame; ValueError if the core ended."""
         frame: Frame = json.loads(self.output.readline(LINE + 1))
         return frame
 
     def body(self, frame: Frame) -> Iterator[bytes]:
-        """The bytes behind a frame, in pieces."""
+        """The bytes after a frame, in pieces."""
         left = frame.get("bytes", 0)
         while left:
             piece = self.output.read(min(left, PIECE))
@@ -44,8 +38,7 @@ class Core:
             yield piece
 
     def write(self, frame: Frame, body: bytes = b"") -> None:
-        self.input.write(json.dumps(frame).encode() + b"\n")
-        self.input.write(body)
+        self.input.write(json.dumps(frame).encode() + b"\n" + body)
         self.input.flush()
 
     def end(self) -> int:

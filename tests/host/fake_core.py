@@ -1,10 +1,11 @@
-#!/usr/bin/env python3
-"""A core that believes everything: it asks for an image, and hands it on with no check. For tests of the host alone.
+#!/usr/bin/python3
+"""A core that believes almost everything: it requests an image and its signature, and hands it on. For tests of the host alone.
 
-FAKE says how it misbehaves: `ends N` ends with a status after the settings, `garbage` writes what is no frame, `refused TEXT`
-asks for the image and refuses it with this report, `early` ends with the half of a blob written.
+FAKE says how it misbehaves: `ends N` exits with a status after the settings, `garbage` writes what is not a frame, `frame JSON` writes this one,
+`refused TEXT` refuses with this report, `settings` with a report of the settings, `early` exits with the half of a blob written.
 """
 import base64
+import contextlib
 import hashlib
 import json
 import os
@@ -73,31 +74,52 @@ class Pull:
                 return b"".join(pieces)
             pieces.append(piece)
 
-    def blob(self, kind, descriptor):
+    def blob(self, descriptor):
         content = self.get(f"{self.base}/blobs/{descriptor['digest']}")
-        if self.settings["blobs"]:
-            head = {"frame": "blob", "kind": kind, "media_type": descriptor["mediaType"], "digest": descriptor["digest"], "bytes": len(content)}
-            if os.environ.get("FAKE") == "early":
-                write(head, content[: len(content) // 2])
-                sys.exit(0)
-            write(head, content)
+        if "sha256:" + hashlib.sha256(content).hexdigest() != descriptor["digest"]:
+            raise Refused(f'refused RegistryPullError "{self.settings["reference"]}" DigestError VerificationError "{descriptor["digest"]}" "sha256:other"\n')
+        return content
+
+    def signature(self, digest):
+        """The digest of a signature under the digest's tag that the host calls valid; that of the image if there is none under it."""
+        tag = f"{self.base}/manifests/{digest.replace(':', '-')}.sig"
+        try:
+            document = self.get(tag)
+        except Refused:
+            self.get_list(digest)
+            return digest
+        manifest, payload = json.loads(document), b""
+        for descriptor in (manifest["config"], *manifest["layers"]):
+            payload = self.get(f"{self.base}/blobs/{descriptor['digest']}")
+            if "sha256:" + hashlib.sha256(payload).hexdigest() != descriptor["digest"]:
+                raise Refused(f'refused RegistryPullError "{self.settings["reference"]}" DigestError VerificationError "{descriptor["digest"]}" "sha256:other"\n')
+        signature = manifest["layers"][0]["annotations"]["dev.cosignproject.cosign/signature"]
+        for key in self.settings["keys"]:
+            if answered({"frame": "verify", "key": key, "signature": signature, "bytes": len(payload)}, payload)[0]["valid"]:
+                return manifest["layers"][0]["digest"]
+        raise Refused(f'refused Unsatisfied "{digest}"\ncollected {manifest["layers"][0]["digest"]}\n')
+
+    def get_list(self, digest):
+        with contextlib.suppress(Refused):
+            self.get(f"{self.base}/referrers/{digest}")
 
     def run(self):
         self.get(f"{self.base}/manifests/{self.name}", "HEAD")
         document = self.get(f"{self.base}/manifests/{self.name}")
         manifest = json.loads(document)
         digest = "sha256:" + hashlib.sha256(document).hexdigest()
-        write({"frame": "document", "kind": "manifest", "media_type": manifest["mediaType"], "digest": digest, "bytes": len(document)}, document)
-        self.blob("config", manifest["config"])
-        for layer in manifest["layers"]:
-            self.blob("layer", layer)
-        message = b"signed text"
-        for key in self.settings["keys"]:
-            frame = {"frame": "verify", "key": key, "signature": base64.b64encode(b"none").decode(), "bytes": len(message)}
-            assert answered(frame, message)[0] == {"frame": "verified", "valid": False}
+        signature = self.signature(digest)
         judged, _ = answered({"frame": "judge", "certificate": "AA==", "integrated_time": 1})
         assert judged == {"frame": "vouched", "vouched": None}
-        write({"frame": "pulled", "digest": digest, "manifest": digest, "signature": digest})
+        blobs = [(kind, blob, self.blob(blob)) for kind, blob in [("config", manifest["config"]), *(("layer", layer) for layer in manifest["layers"])]]
+        write({"frame": "document", "kind": "manifest", "media_type": manifest["mediaType"], "digest": digest, "bytes": len(document)}, document)
+        for kind, blob, content in blobs if self.settings["blobs"] else ():
+            head = {"frame": "blob", "kind": kind, "media_type": blob["mediaType"], "digest": blob["digest"], "bytes": len(content)}
+            if os.environ.get("FAKE") == "early":
+                write(head, content[: len(content) // 2])
+                sys.exit(0)
+            write(head, content)
+        write({"frame": "pulled", "digest": digest, "manifest": digest, "signature": signature})
 
 
 def main():
@@ -106,7 +128,10 @@ def main():
     if word == "ends":
         return int(rest)
     if word == "garbage":
-        OUTPUT.write(b"this is no frame\n")
+        OUTPUT.write(b"this is not a frame\n")
+        return 0
+    if word == "frame":
+        write(json.loads(rest))
         return 0
     try:
         if word == "settings":
