@@ -1,22 +1,19 @@
 //! Entries of a transparency log.
-ghost use Rattle.std.specs.Prelude.{◌≡◌, IfOk, is_some, map};
+ghost use Rattle.std.specs.Prelude.{◌≡◌, IfOk, is_some, map, pos};
 ghost use Rattle.std.specs.Fmt.{signed_decimal};
-ghost use Rattle.std.specs.List.{list_all};
 ghost use Rattle.hex.specs.Hex.{encode_lower};
 ghost use Rattle.serde_json.specs.View.{view};
-ghost use Rattle.cosign_parts.specs.LogEntry.{annotated_entry, bundle_entry_of, decimal_of, in_log_read};
-ghost use Rattle.cosign_parts.specs.LogEntry.{is_decimal, is_digit, log_text, logged, logs, payload_entry_of};
-ghost use Rattle.cosign_parts.specs.LogEntry.{text_is, whole_of, whole_or_text_of};
+ghost use Rattle.cosign_parts.specs.LogEntry.{annotated_entry, bundle_entry_of, in_log, log_text, logged, logs};
+ghost use Rattle.cosign_parts.specs.LogEntry.{payload_entry_of, short_decimal_of, text_is, whole_of, whole_or_text_of};
 ghost use Rattle.json_tables.specs.Bytes.{base64_of};
 ghost use Rattle.json_tables.specs.Member.{required};
 
 use json_events::MAX_SAFE_INTEGER;
 use json_tables::{decode_base64, read_plain_json, text_at};
-use json_values::{Blob, Copied, Text, copied, read_json, write_quoted};
+use json_values::{Blob, Copied, Text, copied, read_decimal, read_json, write_quoted};
 use serde_json::Value;
 use sha2::{Digest, Sha256};
 use std::alloc::{AllocError, Global};
-use std::num::ParseIntError;
 
 /// A log's entry for a signature, with the log's promise to keep it.
 #[derive(Drop)]
@@ -226,57 +223,28 @@ fn whole_or_text(value: &Value) -> Option<i64>
     ensures { result ≡ whole_or_text_of (view value.now) }
 {
     match value {
-        Value::String(text) => decimal(text.as_str()),
+        Value::String(text) => short_decimal(text.as_str()),
         other => whole(other),
     }
 }
 
-// Returns the number that 1 to 16 decimal digits denote.
-#[tactic(auto, using(crate::proofs::Decimals::decimal_read, crate::proofs::Decimals::not_decimal))]
-fn decimal(text: &str) -> Option<i64>
-    ensures { result ≡ decimal_of text.now }
+// Returns the number that 1 to 16 decimal digits denote, if it is in the log's range.
+fn short_decimal(text: &str) -> Option<i64>
+    ensures { result ≡ short_decimal_of text.now }
 {
-    let decimal = is_decimal(text.as_bytes());
-    if !decimal {
+    if 16 < text.len() {
         return None;
     }
-    let read = text.parse::<u64>();
-    let number = in_log(read);
-    number
+    in_log(read_decimal(text.as_bytes())?)
 }
 
-// Returns the number that was parsed, if it is in the log's range.
-fn in_log(read: Result<u64, ParseIntError>) -> Option<i64>
-    ensures { result ≡ in_log_read read }
+fn in_log(number: u64) -> Option<i64>
+    ensures { result ≡ in_log (pos number) }
 {
-    match read {
-        Ok(number) if number <= MAX_SAFE_INTEGER as u64 => Some(number as i64),
-        Ok(_) => None,
-        Err(_) => None,
+    if number > MAX_SAFE_INTEGER as u64 {
+        return None;
     }
-}
-
-#[tactic(auto, using(crate::proofs::Decimals::decimal_length, crate::proofs::Decimals::not_length))]
-fn is_decimal(text: &[u8]) -> bool
-    ensures { result ≡ is_decimal text.now }
-{
-    if text.is_empty() || 16 < text.len() {
-        return false;
-    }
-    let digits = all_digits(text);
-    digits
-}
-
-fn all_digits(text: &[u8]) -> bool
-    ensures { result ≡ list_all is_digit text.now }
-{
-    text.iter().all(|byte| is_digit(*byte))
-}
-
-fn is_digit(byte: u8) -> bool
-    ensures { result ≡ is_digit byte }
-{
-    48 <= byte && byte <= 57
+    Some(number as i64)
 }
 
 fn decimal_text(alloc: Global, number: &i64) -> Result<Text, AllocError>

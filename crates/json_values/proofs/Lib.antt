@@ -1,3 +1,4 @@
+pub mod Decimals
 pub mod Equalities
 pub mod Escapes
 pub mod Fronts

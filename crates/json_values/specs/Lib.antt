@@ -1,6 +1,7 @@
 pub mod Canon
 pub mod Coding
 pub mod Counts
+pub mod Decimals
 pub mod Equalities
 pub mod JsonText
 pub mod Places

@@ -18,7 +18,7 @@ mod to_value;
 pub use blob::Blob;
 pub use copied::Copied;
 pub use copies::{CopyRow, copy_all};
-pub use decimal::write_decimal;
+pub use decimal::{decimals_round_trip, read_decimal, write_decimal};
 pub use json_value::Json;
 pub use list::List;
 pub use map::{Annotations, TextMap};

@@ -1,53 +1,42 @@
 -- `bool` values that decide an equality of texts.
-use Rattle.std.proofs.Common.{◌≡◌, ◌↔◌, ◌⊎◌, inl, inr, ℕ, List, Bool, true, false, IsTrue, ◌||◌, bytes_eq, refl, sym, true≢false}
+use Rattle.std.proofs.Common.{◌≡◌, ◌↔◌, ◌⊎◌, inl, inr, ℕ, List, Bool, true, false, IsTrue, ◌||◌, ◌++◌, [], ◌∷◌, refl, sym, ap, ◌∙◌, true≢false}
+use Rattle.std.specs.List.{list_any}
+use Rattle.std.proofs.lemmas.List.{append_cancel_left}
 use Rattle.std.proofs.lemmas.Slice.Eq.{bytes_eq-Decides}
 use Rattle.std.proofs.lemmas.Bool.Decides.{same_from_decides}
-use Rattle.oci_digests.specs.Names.{Names, names, names_by, digest_text}
-use Rattle.oci_digests.specs.declared.digester.Algorithm.{Algorithm}
-use Rattle.oci_digests.specs.declared.digester.Algorithm.TheVariants.{Sha256, Sha384, Sha512}
-
-pub as_decided : (b : Bool) (xs ys : List ℕ) → (IsTrue b ↔ (xs ≡ ys)) → b ≡ bytes_eq xs ys
-as_decided b xs ys h = same_from_decides b (bytes_eq xs ys) h (bytes_eq-Decides xs ys)
+use Rattle.hex.specs.Hex.{encode_lower}
+use Rattle.oci_names.specs.Algorithms.{all}
+use Rattle.oci_names.specs.declared.algorithm.Algorithm.{Algorithm}
+use Rattle.oci_names.proofs.Algorithms.{some}
+use Rattle.oci_digests.specs.Hashes.{hash_of}
+use Rattle.oci_digests.specs.Names.{Names, names, names_by, digest_text, prefix_of}
 
 either_true : (a b : Bool) → IsTrue (a || b) → IsTrue a ⊎ IsTrue b
 either_true true b h = inl refl
 either_true false b h = inr h
 
-left_true : (a b : Bool) → IsTrue a → IsTrue (a || b)
-left_true true b h = refl
-left_true false b h = absurd (true≢false (sym h))
+-- digits after an algorithm's name
+pub by_digits : (b : Bool) (a : Algorithm) (text bytes digits : List ℕ) → text ≡ prefix_of a ++ digits → (IsTrue b ↔ (digits ≡ encode_lower (hash_of a bytes))) → b ≡ names_by a text bytes
+by_digits b a text bytes digits is same =
+    same_from_decides b (names_by a text bytes)
+    (λ t. is ∙ ap (λ ds. prefix_of a ++ ds) (same.0 t), λ e. same.1 (append_cancel_left (prefix_of a) digits (encode_lower (hash_of a bytes)) (sym is ∙ e)))
+    (bytes_eq-Decides text (digest_text a bytes))
 
-right_true : (a b : Bool) → IsTrue b → IsTrue (a || b)
-right_true true b h = refl
-right_true false b h = h
+-- a text that begins otherwise
+pub no_digits : (a : Algorithm) (text bytes : List ℕ) → ((rest : List ℕ) → text ≡ prefix_of a ++ rest → ⊥) → false ≡ names_by a text bytes
+no_digits a text bytes none = by_test (names_by a text bytes) (bytes_eq-Decides text (digest_text a bytes)).0 where
+  by_test : (b : Bool) → (IsTrue b → text ≡ digest_text a bytes) → false ≡ b
+  by_test true is = absurd (none (encode_lower (hash_of a bytes)) (is refl))
+  by_test false is = refl
 
-by_one : (a : Algorithm) (text bytes : List ℕ) → IsTrue (names_by a text bytes) → Names text bytes
-by_one a text bytes h = (a, (bytes_eq-Decides text (digest_text a bytes)).0 h)
-
-some_one : (text bytes : List ℕ) → IsTrue (names text bytes) → Names text bytes
-some_one text bytes h =
-    elim (either_true (names_by Sha256 text bytes || names_by Sha384 text bytes) (names_by Sha512 text bytes) h) [
-      | inl l ↦ elim (either_true (names_by Sha256 text bytes) (names_by Sha384 text bytes) l) [
-        | inl x ↦ by_one Sha256 text bytes x
-        | inr x ↦ by_one Sha384 text bytes x
-      ]
-      | inr r ↦ by_one Sha512 text bytes r
-    ]
-
-this_one : (a : Algorithm) (text bytes : List ℕ) → text ≡ digest_text a bytes → IsTrue (names_by a text bytes)
-this_one a text bytes e = (bytes_eq-Decides text (digest_text a bytes)).1 e
-
-any_one : (text bytes : List ℕ) (a : Algorithm) → text ≡ digest_text a bytes → IsTrue (names text bytes)
-any_one text bytes Sha256 e =
-    left_true (names_by Sha256 text bytes || names_by Sha384 text bytes) (names_by Sha512 text bytes)
-    (left_true (names_by Sha256 text bytes) (names_by Sha384 text bytes) (this_one Sha256 text bytes e))
-any_one text bytes Sha384 e =
-    left_true (names_by Sha256 text bytes || names_by Sha384 text bytes) (names_by Sha512 text bytes)
-    (right_true (names_by Sha256 text bytes) (names_by Sha384 text bytes) (this_one Sha384 text bytes e))
-any_one text bytes Sha512 e =
-    right_true (names_by Sha256 text bytes || names_by Sha384 text bytes) (names_by Sha512 text bytes)
-    (this_one Sha512 text bytes e)
+-- one of these algorithms names the bytes
+pub named_among : (text bytes : List ℕ) (list : List Algorithm) → IsTrue (list_any (λ a. names_by a text bytes) list) → Names text bytes
+named_among text bytes [] h = absurd (true≢false (sym h))
+named_among text bytes (a ∷ others) h = elim (either_true (names_by a text bytes) (list_any (λ a. names_by a text bytes) others) h) [
+  | inl one ↦ (a, (bytes_eq-Decides text (digest_text a bytes)).0 one)
+  | inr more ↦ named_among text bytes others more
+]
 
 -- the test is true if and only if the text names the bytes
 pub named : (text bytes : List ℕ) → IsTrue (names text bytes) ↔ Names text bytes
-named text bytes = (some_one text bytes, λ n. any_one text bytes n.0 n.1)
+named text bytes = (named_among text bytes all, λ n. some (λ a. names_by a text bytes) n.0 ((bytes_eq-Decides text (digest_text n.0 bytes)).1 n.1))

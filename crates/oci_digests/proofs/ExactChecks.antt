@@ -1,37 +1,17 @@
 -- A body is validated if and only if each given digest names it.
 use Rattle.std.proofs.Common.{◌≡◌, ℕ, ◌++◌, Bool, true, false, List, length, bytes_eq, if◌then◌else◌, Option, Some, None, Result, Ok, Err, IfOk, IfErr, MatchBool, codes, refl, sym, ap, ◌∙◌, subst, true≢false, arith}
 use Rattle.std.proofs.lemmas.Slice.Eq.{bytes_eq-Decides}
-use Rattle.std.proofs.lemmas.Bool.{lt-ltb}
 use Rattle.hex.specs.Hex.{encode_lower}
 use Rattle.oci_digests.specs.Checks.{and_then, checked_by, checked, both_checked, both_validated, validated}
-use Rattle.oci_digests.specs.Error.{is_memory, Matches}
-use Rattle.oci_digests.specs.Names.{Names, digest_text, name_of, hash_of}
-use Rattle.oci_digests.specs.Checks.{parts_of, named_by, named_algorithm}
+use Rattle.json_values.specs.Refusals.{Matches}
+use Rattle.oci_digests.specs.Error.{is_memory}
+use Rattle.oci_digests.specs.Hashes.{hash_of}
+use Rattle.oci_digests.specs.Names.{Names, digest_text}
+use Rattle.oci_digests.specs.Checks.{parts_of, named_algorithm}
 use Rattle.oci_digests.specs.Validates.{Validates}
-use Rattle.oci_digests.specs.declared.digester.Algorithm.{Algorithm}
-use Rattle.oci_digests.specs.declared.digester.Algorithm.TheVariants.{Sha256, Sha384, Sha512}
+use Rattle.oci_names.specs.declared.algorithm.Algorithm.{Algorithm}
 use Rattle.oci_digests.specs.declared.error.DigestError.{DigestError}
-
--- the name before the first colon
-word_of : Algorithm → List ℕ
-word_of Sha256 = codes "sha256"
-word_of Sha384 = codes "sha384"
-word_of Sha512 = codes "sha512"
-
-parts_named : (a : Algorithm) (digits : List ℕ) → parts_of (name_of a ++ digits) ≡ Some (word_of a, digits)
-unfolding word_of
-parts_named Sha256 digits =
-    ap (λ b. if b then Some (word_of Sha256, digits) else None) (lt-ltb 6 (length (name_of Sha256 ++ digits)) (omega arith))
-parts_named Sha384 digits =
-    ap (λ b. if b then Some (word_of Sha384, digits) else None) (lt-ltb 6 (length (name_of Sha384 ++ digits)) (omega arith))
-parts_named Sha512 digits =
-    ap (λ b. if b then Some (word_of Sha512, digits) else None) (lt-ltb 6 (length (name_of Sha512 ++ digits)) (omega arith))
-
-pub algorithm_named : (a : Algorithm) (digits : List ℕ) → named_algorithm (name_of a ++ digits) ≡ Ok a
-unfolding word_of
-algorithm_named Sha256 digits = ap named_by (parts_named Sha256 digits)
-algorithm_named Sha384 digits = ap named_by (parts_named Sha384 digits)
-algorithm_named Sha512 digits = ap named_by (parts_named Sha512 digits)
+use Rattle.oci_digests.proofs.Algorithms.{parts_named, algorithm_named}
 
 chosen : {A : Type 0} (b : Bool) (x y : A) → b ≡ true → (if b then x else y) ≡ x
 chosen true x y e = refl
@@ -112,7 +92,7 @@ is_validated body (Some h) (Some r) text v =
     ∙ both_pass (bytes_eq h r) body h r v.header_names v.reference_names
     ∙ ap Ok (sym v.answer)
 
-pub ok_of : (body : List ℕ) (header reference : Option (List ℕ)) (result : Result (List ℕ) DigestError) → Matches result (validated body header reference) → IfOk result (Validates body header reference)
+pub ok_of : (body : List ℕ) (header reference : Option (List ℕ)) (result : Result (List ℕ) DigestError) → Matches is_memory result (validated body header reference) → IfOk result (Validates body header reference)
 ok_of body header reference (Ok text) says = validates body header reference text says
 ok_of body header reference (Err e) says = tt
 
@@ -120,7 +100,7 @@ told : (b : Bool) (P : Type 0) → MatchBool b (Unit {0}) P → b ≡ false → 
 told true P m e = absurd (true≢false e)
 told false P m e = m
 
-pub err_of : (body : List ℕ) (header reference : Option (List ℕ)) (result : Result (List ℕ) DigestError) → Matches result (validated body header reference)
+pub err_of : (body : List ℕ) (header reference : Option (List ℕ)) (result : Result (List ℕ) DigestError) → Matches is_memory result (validated body header reference)
     → IfErr result (λ e. is_memory e ≡ false → (text : List ℕ) → Validates body header reference text → ⊥)
 err_of body header reference (Ok text) says = tt
 err_of body header reference (Err e) says = λ not_memory text v.

@@ -3,12 +3,13 @@ use Rattle.std.proofs.Common.{◌≡◌, ◌↔◌, ℕ, List, ◌++◌, Bool, t
 use Rattle.std.proofs.lemmas.Slice.Eq.{bytes_eq-Decides}
 use Rattle.std.proofs.lemmas.Bool.Decides.{same_from_decides}
 use Rattle.hex.specs.Hex.{encode_lower}
-use Rattle.oci_digests.specs.Names.{Names, names, digest_text, hash_of}
-use Rattle.oci_digests.specs.Checks.{parts_of, named_algorithm, named_by, algorithm_of}
-use Rattle.oci_digests.specs.declared.digester.Algorithm.{Algorithm}
+use Rattle.oci_digests.specs.Hashes.{hash_of}
+use Rattle.oci_digests.specs.Names.{Names, names, digest_text, prefix_of}
+use Rattle.oci_digests.specs.Checks.{parts_of, named_algorithm, named_by}
+use Rattle.oci_names.specs.declared.algorithm.Algorithm.{Algorithm}
 use Rattle.oci_digests.specs.declared.error.DigestError.{DigestError}
 use Rattle.oci_digests.proofs.Equal.{named}
-use Rattle.oci_digests.proofs.ExactChecks.{algorithm_named}
+use Rattle.oci_digests.proofs.Algorithms.{algorithm_named}
 
 -- equal texts name the same bytes
 pub names_equal : (text other bytes : List ℕ) → text ≡ other → Names text bytes → Names other bytes
@@ -37,10 +38,8 @@ same_algorithm text known p q a b same = ap named_by a ∙ by same ∙ sym (ap n
   by : p.0 ≡ q.0 → named_by (Some p) ≡ named_by (Some q)
   by e = ap (λ name. named_by (Some (name, p.1))) e
 
--- a string that begins with another name is not this name and digits
-pub begins : (b : Bool) (text name digits : List ℕ) → ((rest : List ℕ) → text ≡ name ++ rest → IsTrue b) → (b && bytes_eq text (name ++ digits)) ≡ bytes_eq text (name ++ digits)
-begins true text name digits h = refl
-begins false text name digits h = by (bytes_eq text (name ++ digits)) (bytes_eq-Decides text (name ++ digits)).0 where
-  by : (c : Bool) → (IsTrue c → text ≡ name ++ digits) → false ≡ c
-  by true d = h digits (d refl)
-  by false d = refl
+-- a text that begins with an algorithm names the bytes by no other
+pub own_text : (a : Algorithm) (text rest bytes : List ℕ) → Names text bytes → text ≡ prefix_of a ++ rest → text ≡ digest_text a bytes
+own_text a text rest bytes n is =
+    let same = ok_is n.0 a (sym (algorithm text bytes n) ∙ ap named_algorithm is ∙ algorithm_named a rest) in
+    n.1 ∙ ap (λ b. digest_text b bytes) same

@@ -6,7 +6,7 @@ use Rattle.oci_digests.specs.declared.both.Digesters.{Digesters}
 use Rattle.oci_digests.specs.declared.both.DigestTexts.{DigestTexts}
 use Rattle.oci_digests.specs.declared.both.Given.{Given}
 use Rattle.oci_digests.specs.declared.both.Given.TheVariants.{Absent, Shared, Other}
-use Rattle.oci_digests.specs.declared.digester.Algorithm.{Algorithm}
+use Rattle.oci_names.specs.declared.algorithm.Algorithm.{Algorithm}
 
 -- no algorithm is given, or it is the descriptor's, or there is a digester of it that has hashed these bytes
 abbrev pub GivenHolds : Given → Option Algorithm → Algorithm → List ℕ → Type 0

@@ -2,13 +2,13 @@
 use Rattle.std.specs.Prelude.{ℕ, Bool, ◌&&◌, ◌||◌, List, [], nat_le, ◌==◌, if◌then◌else◌, bytes_eq, Option, Some, None}
 use Rattle.std.specs.Prelude.{Result, Ok, Err}
 use Rattle.std.specs.List.{list_all, position_or_len, before_first, after_first}
+use Rattle.oci_names.specs.Algorithms.{algorithm_of}
 use Rattle.oci_digests.specs.Names.{digest_text}
-use Rattle.oci_digests.specs.declared.digester.Algorithm.{Algorithm}
-use Rattle.oci_digests.specs.declared.digester.Algorithm.TheVariants.{Sha256}
+use Rattle.oci_names.specs.declared.algorithm.Algorithm.{Algorithm}
+use Rattle.oci_names.specs.declared.algorithm.Algorithm.TheVariants.{Sha256}
 use Rattle.oci_digests.specs.declared.error.DigestError.{DigestError}
 use Rattle.oci_digests.specs.declared.error.DigestError.TheVariants.{InvalidHeader, MissingAlgorithm, VerificationError}
-use Rattle.std.specs.Prelude.{codes, length, nat_lt, ok_or}
-use Rattle.oci_digests.specs.declared.digester.Algorithm.TheVariants as algorithms
+use Rattle.std.specs.Prelude.{length, nat_lt, ok_or}
 use Rattle.oci_digests.specs.declared.error.DigestError.TheVariants.{UnsupportedAlgorithm}
 
 -- the texts before and after the first colon
@@ -17,14 +17,6 @@ parts_of text =
     if nat_lt (position_or_len (λ b. b == 58) text) (length text)
     then Some (before_first (λ b. b == 58) text, after_first (λ b. b == 58) text)
     else None
-
--- the algorithm with this name
-abbrev pub algorithm_of : List ℕ → Option Algorithm
-algorithm_of name =
-    if bytes_eq name (codes "sha256") then Some algorithms.Sha256
-    else (if bytes_eq name (codes "sha384") then Some algorithms.Sha384
-    else (if bytes_eq name (codes "sha512") then Some algorithms.Sha512
-    else None))
 
 -- the algorithm that a text of these parts names
 abbrev pub named_by : Option (List ℕ × List ℕ) → Result Algorithm DigestError

@@ -1,6 +1,5 @@
 -- Why a digest is refused.
-use Rattle.std.specs.Prelude.{Bool, true, false, Result}
-use Rattle.json_values.specs.Refusals as Refusals
+use Rattle.std.specs.Prelude.{Bool, true, false}
 use Rattle.oci_digests.specs.declared.error.DigestError.{DigestError}
 use Rattle.oci_digests.specs.declared.error.DigestError.TheVariants.{WantOfMemory}
 
@@ -8,7 +7,3 @@ use Rattle.oci_digests.specs.declared.error.DigestError.TheVariants.{WantOfMemor
 abbrev pub is_memory : DigestError → Bool
 is_memory WantOfMemory = true
 is_memory _ = false
-
--- the result is this one, or out of memory
-abbrev pub Matches : {A : Type 0} → Result A DigestError → Result A DigestError → Type 0
-Matches answer said = Refusals.Matches is_memory answer said

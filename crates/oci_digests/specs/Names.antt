@@ -1,25 +1,18 @@
 -- Texts that name bytes by a hash (OCI image specification, descriptor.md, "Digests").
-use Rattle.std.specs.Prelude.{◌≡◌, ℕ, Bool, List, ◌++◌, ◌||◌, codes, bytes_eq}
-use Rattle.sha2.specs.Sha256.{sha256}
-use Rattle.sha2.specs.Sha512.{sha384, sha512}
+use Rattle.std.specs.Prelude.{◌≡◌, ℕ, Bool, List, ◌++◌, codes, bytes_eq}
+use Rattle.std.specs.List.{list_any}
 use Rattle.hex.specs.Hex.{encode_lower}
-use Rattle.oci_digests.specs.declared.digester.Algorithm.{Algorithm}
-use Rattle.oci_digests.specs.declared.digester.Algorithm.TheVariants as algorithms
+use Rattle.oci_names.specs.Algorithms.{all, name_of}
+use Rattle.oci_names.specs.declared.algorithm.Algorithm.{Algorithm}
+use Rattle.oci_digests.specs.Hashes.{hash_of}
 
 -- the name of the algorithm and a colon
-abbrev pub name_of : Algorithm → List ℕ
-name_of algorithms.Sha256 = codes "sha256:"
-name_of algorithms.Sha384 = codes "sha384:"
-name_of algorithms.Sha512 = codes "sha512:"
-
-abbrev pub hash_of : Algorithm → List ℕ → List ℕ
-hash_of algorithms.Sha256 = sha256
-hash_of algorithms.Sha384 = sha384
-hash_of algorithms.Sha512 = sha512
+abbrev pub prefix_of : Algorithm → List ℕ
+prefix_of a = name_of a ++ codes ":"
 
 -- the text of a hash: the algorithm, a colon and lower-case hexadecimal digits
 abbrev pub digest_text : Algorithm → List ℕ → List ℕ
-digest_text a bytes = name_of a ++ encode_lower (hash_of a bytes)
+digest_text a bytes = prefix_of a ++ encode_lower (hash_of a bytes)
 
 -- the text names the bytes
 abbrev pub Names : List ℕ → List ℕ → Type 0
@@ -31,6 +24,4 @@ names_by a text bytes = bytes_eq text (digest_text a bytes)
 
 -- whether the text names the bytes
 abbrev pub names : List ℕ → List ℕ → Bool
-names text bytes =
-    names_by algorithms.Sha256 text bytes || names_by algorithms.Sha384 text bytes
-    || names_by algorithms.Sha512 text bytes
+names text bytes = list_any (λ a. names_by a text bytes) all

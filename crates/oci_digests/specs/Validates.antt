@@ -1,7 +1,7 @@
 -- When the given digests name a body.
 use Rattle.std.specs.Prelude.{◌≡◌, ℕ, List, Option, unwrap_or, IfSome}
 use Rattle.oci_digests.specs.Names.{Names, digest_text}
-use Rattle.oci_digests.specs.declared.digester.Algorithm.TheVariants.{Sha256}
+use Rattle.oci_names.specs.declared.algorithm.Algorithm.TheVariants.{Sha256}
 
 -- each given digest names the body, and the result is the header's text, else the reference's, else the SHA-256 text
 -- of the body

@@ -3,8 +3,9 @@ ghost use Rattle.std.specs.Prelude.{◌≡◌, ◌++◌, [], List, ℕ, IfOk};
 ghost use Rattle.oci_digests.specs.Both.{GivenHolds, given_text};
 ghost use Rattle.oci_digests.specs.Names.{digest_text};
 
-use crate::digester::{Algorithm, Digester};
+use crate::digester::Digester;
 use json_values::{Copied, Text, copied};
+use oci_names::Algorithm;
 use std::alloc::{AllocError, Global};
 
 // How a body is hashed for the digest in a header.
@@ -44,12 +45,10 @@ impl Copied for DigestTexts {
 fn given_of(given: Option<Algorithm>, own: Algorithm) -> Given
     ensures { GivenHolds result given own [] }
 {
-    match (given, own) {
-        (None, _) => Given::Absent,
-        (Some(Algorithm::Sha256), Algorithm::Sha256) => Given::Shared,
-        (Some(Algorithm::Sha384), Algorithm::Sha384) => Given::Shared,
-        (Some(Algorithm::Sha512), Algorithm::Sha512) => Given::Shared,
-        (Some(algorithm), _) => Given::Other(Digester::of(algorithm)),
+    match given {
+        None => Given::Absent,
+        Some(algorithm) if algorithm == own => Given::Shared,
+        Some(algorithm) => Given::Other(Digester::of(algorithm)),
     }
 }
 

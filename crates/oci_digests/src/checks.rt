@@ -2,37 +2,25 @@
 ghost use Rattle.std.specs.Prelude.{◌≡◌, true, false, ℕ, List, Some, MatchOption, IfOk, IfErr};
 ghost use Rattle.std.specs.Option.{option_copied};
 ghost use Rattle.oci_digests.specs.Checks.{checked, validated, header_digest, is_header_text};
-ghost use Rattle.oci_digests.specs.Error.{Matches, is_memory};
-ghost use Rattle.oci_digests.specs.Checks.{algorithm_of, named_algorithm};
+ghost use Rattle.json_values.specs.Refusals.{Matches};
+ghost use Rattle.oci_digests.specs.Error.{is_memory};
+ghost use Rattle.oci_digests.specs.Checks.{named_algorithm};
 ghost use Rattle.oci_digests.specs.Validates.{Validates, ValidatesNone};
 
 use crate::digest::Digest;
-use crate::digester::Algorithm;
 use crate::error::DigestError;
-use crate::names::{digest_text, sha256_digest};
+use crate::hasher::digest_text;
+use crate::names::sha256_digest;
 use json_values::{Blob, Text};
+use oci_names::Algorithm;
 use std::alloc::Global;
-
-fn algorithm_of(name: &str) -> Option<Algorithm>
-    ensures { result ≡ algorithm_of name.now }
-{
-    if name == "sha256" {
-        Some(Algorithm::Sha256)
-    } else if name == "sha384" {
-        Some(Algorithm::Sha384)
-    } else if name == "sha512" {
-        Some(Algorithm::Sha512)
-    } else {
-        None
-    }
-}
 
 /// Returns the algorithm that a digest text names.
 pub fn named_algorithm(alloc: Global, text: &str) -> Result<Algorithm, DigestError>
-    ensures { Matches result (named_algorithm text.now) }
+    ensures { Matches is_memory result (named_algorithm text.now) }
 {
     let parts = Digest::new(text)?;
-    match algorithm_of(parts.algorithm) {
+    match Algorithm::named(parts.algorithm) {
         Some(algorithm) => Ok(algorithm),
         None => Err(DigestError::UnsupportedAlgorithm(Text::new(alloc, parts.algorithm)?)),
     }
@@ -40,7 +28,7 @@ pub fn named_algorithm(alloc: Global, text: &str) -> Result<Algorithm, DigestErr
 
 // Returns the text, if it names the body.
 fn check(alloc: Global, body: &[u8], text: &str) -> Result<Text, DigestError>
-    ensures { Matches result (checked body.now text.now) }
+    ensures { Matches is_memory result (checked body.now text.now) }
 {
     let algorithm = named_algorithm(alloc, text)?;
     let actual = digest_text(alloc, algorithm, body)?;
@@ -63,7 +51,7 @@ pub fn validate_digest(
     digest_header: Option<&str>,
     reference_digest: Option<&str>,
 ) -> Result<Text, DigestError>
-    ensures exact { Matches result (validated body.now
+    ensures exact { Matches is_memory result (validated body.now
         (option_copied digest_header.entry) (option_copied reference_digest.entry)) }
     ensures ok { IfOk result (Validates body.now
         (option_copied digest_header.entry) (option_copied reference_digest.entry)) }
@@ -79,7 +67,7 @@ fn check_given(
     digest_header: Option<&str>,
     reference_digest: Option<&str>,
 ) -> Result<Text, DigestError>
-    ensures { Matches result (validated body.now
+    ensures { Matches is_memory result (validated body.now
         (option_copied digest_header.entry) (option_copied reference_digest.entry)) }
 {
     match (digest_header, reference_digest) {
@@ -96,7 +84,7 @@ fn check_both(
     header: &str,
     reference: &str,
 ) -> Result<Text, DigestError>
-    ensures { Matches result (validated body.now (Some header.now) (Some reference.now)) }
+    ensures { Matches is_memory result (validated body.now (Some header.now) (Some reference.now)) }
 {
     Digest::new(header)?;
     Digest::new(reference)?;
@@ -134,7 +122,7 @@ fn is_header_text(value: &[u8]) -> bool
 /// Returns the digest in the value of the first `Docker-Content-Digest` header (OCI distribution specification,
 /// "Pulling manifests"): `None` if the header is missing or empty. Returns `InvalidHeader` if it is not text.
 pub fn digest_header_value(alloc: Global, value: Option<&[u8]>) -> Result<Option<Text>, DigestError>
-    ensures { Matches result (header_digest (option_copied value.entry)) }
+    ensures { Matches is_memory result (header_digest (option_copied value.entry)) }
 {
     let Some(value) = value else {
         return Ok(None);

@@ -6,11 +6,14 @@ mod checks;
 mod digest;
 mod digester;
 mod error;
+mod hasher;
 mod names;
 
 pub use both::{DigestTexts, Digesters};
 pub use checks::{digest_header_value, named_algorithm, validate_digest};
 pub use digest::Digest;
-pub use digester::{Algorithm, Digester};
+pub use digester::Digester;
 pub use error::DigestError;
-pub use names::{digest_text, names_digest, names_known, sha256_digest};
+pub use hasher::{digest_text, names_by};
+pub use names::{digits_after, names_digest, names_known, sha256_digest};
+pub use oci_names::Algorithm;

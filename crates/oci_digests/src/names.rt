@@ -1,13 +1,13 @@
 // Texts that name bytes by a hash.
-ghost use Rattle.std.specs.Prelude.{◌≡◌, ◌↔◌, ◌++◌, ◌≤◌, ◌*◌, List, ℕ, IsTrue, IfOk, length, bytes_eq};
+ghost use Rattle.std.specs.Prelude.{◌≡◌, ◌↔◌, ◌++◌, ◌≤◌, ◌*◌, List, ℕ, IsTrue, IfOk, MatchOption, length};
 ghost use Rattle.hex.specs.Hex.{encode_lower};
-ghost use Rattle.oci_digests.specs.Names.{digest_text, Names, names, names_by};
+ghost use Rattle.oci_digests.specs.Names.{digest_text, Names, names, prefix_of};
 ghost use Rattle.oci_digests.specs.Checks.{named_algorithm};
 
 use crate::digest::Digest as Parts;
-use crate::digester::Algorithm;
+use crate::hasher::{digest_text, names_by};
 use json_values::Text;
-use sha2::{Digest, Sha256, Sha384, Sha512};
+use oci_names::Algorithm;
 use std::alloc::{AllocError, Global};
 
 /// Returns whether the text names the bytes. Hashes them only by the algorithm with which the text begins.
@@ -16,8 +16,9 @@ pub fn names_digest(text: &str, bytes: &[u8]) -> bool
     ensures exact { IsTrue result ↔ Names text.now bytes.now }
     ensures same { result ≡ names text.now bytes.now }
 {
-    let text = text.as_bytes();
-    is_sha256(text, bytes) || is_sha384(text, bytes) || is_sha512(text, bytes)
+    Algorithm::ALL
+        .iter()
+        .any(|algorithm| names_by(*algorithm, text, bytes))
 }
 
 /// Returns whether the text names the bytes, given that the text `known` does: hashes nothing if both texts have one
@@ -43,57 +44,31 @@ fn same_algorithm(text: &str, known: &str) -> bool
     }
 }
 
-#[tactic(auto, using(crate::proofs::SameBytes::begins))]
-fn is_sha256(text: &[u8], bytes: &[u8]) -> bool
-    ensures { result ≡ names_by Algorithm.Sha256 text.now bytes.now }
+/// Returns the text after the name of the algorithm and a colon, or `None` if the text does not begin with these.
+#[tactic(auto, using(crate::proofs::Prefixes::rules))]
+pub fn digits_after(algorithm: Algorithm, text: &str) -> Option<&str>
+    ensures { MatchOption result
+        ((rest : List ℕ) → text.now ≡ prefix_of algorithm ++ rest → ⊥)
+        (λ rest. text.now ≡ prefix_of algorithm ++ rest.now) }
 {
-    begins(text, b"sha256:") && has_hash(text, b"sha256:", &Sha256::digest(bytes))
+    let Some(rest) = after(algorithm.name(), text) else {
+        return None;
+    };
+    let Some(digits) = after(":", rest) else {
+        return None;
+    };
+    Some(digits)
 }
 
-#[tactic(auto, using(crate::proofs::SameBytes::begins))]
-fn is_sha384(text: &[u8], bytes: &[u8]) -> bool
-    ensures { result ≡ names_by Algorithm.Sha384 text.now bytes.now }
+fn after<'a>(front: &str, text: &'a str) -> Option<&'a str>
+    ensures { MatchOption result
+        ((rest : List ℕ) → text.now ≡ front.now ++ rest → ⊥)
+        (λ rest. text.now ≡ front.now ++ rest.now) }
 {
-    begins(text, b"sha384:") && has_hash(text, b"sha384:", &Sha384::digest(bytes))
-}
-
-#[tactic(auto, using(crate::proofs::SameBytes::begins))]
-fn is_sha512(text: &[u8], bytes: &[u8]) -> bool
-    ensures { result ≡ names_by Algorithm.Sha512 text.now bytes.now }
-{
-    begins(text, b"sha512:") && has_hash(text, b"sha512:", &Sha512::digest(bytes))
-}
-
-fn begins(text: &[u8], name: &[u8]) -> bool
-    ensures { (rest : List ℕ) → text.now ≡ name.now ++ rest → IsTrue result }
-{
-    if text.len() < name.len() {
-        return false;
+    match text.strip_prefix(front) {
+        Some(rest) => Some(rest),
+        None => None,
     }
-    is_same(text.split_at(name.len()).0, name)
-}
-
-// Returns whether the text consists of the name and the digits of the hash.
-#[tactic(auto, using(crate::proofs::Equal::as_decided))]
-fn has_hash(text: &[u8], name: &[u8], hash: &[u8]) -> bool
-    requires { length hash.now ≤ 64 }
-    ensures { result ≡ bytes_eq text.now (name.now ++ encode_lower hash.now) }
-{
-    is_joined(text, name, hash)
-}
-
-fn is_joined(text: &[u8], name: &[u8], hash: &[u8]) -> bool
-    requires { length hash.now ≤ 64 }
-    ensures { IsTrue result ↔ (text.now ≡ name.now ++ encode_lower hash.now) }
-{
-    if text.len() < name.len() {
-        return false;
-    }
-    let (front, digits) = text.split_at(name.len());
-    if !is_same(front, name) {
-        return false;
-    }
-    is_hex_of(digits, hash)
 }
 
 fn is_same(a: &[u8], b: &[u8]) -> bool
@@ -102,7 +77,8 @@ fn is_same(a: &[u8], b: &[u8]) -> bool
     a == b
 }
 
-fn is_hex_of(digits: &[u8], hash: &[u8]) -> bool
+// Returns whether these are the digits of the hash.
+pub(crate) fn is_hex_of(digits: &[u8], hash: &[u8]) -> bool
     requires { length hash.now ≤ 64 }
     ensures { IsTrue result ↔ (digits.now ≡ encode_lower hash.now) }
 {
@@ -121,17 +97,6 @@ fn is_hex_by(digits: &[u8], hash: &[u8], buffer: &mut [u8]) -> bool
     }
 }
 
-/// Returns the digest text of the bytes by this algorithm.
-pub fn digest_text(alloc: Global, algorithm: Algorithm, bytes: &[u8]) -> Result<Text, AllocError>
-    ensures { IfOk result (λ text. text ≡ digest_text algorithm bytes.now) }
-{
-    match algorithm {
-        Algorithm::Sha256 => text_of(alloc, "sha256:", &Sha256::digest(bytes)),
-        Algorithm::Sha384 => text_of(alloc, "sha384:", &Sha384::digest(bytes)),
-        Algorithm::Sha512 => text_of(alloc, "sha512:", &Sha512::digest(bytes)),
-    }
-}
-
 /// Returns the SHA-256 text of the bytes.
 pub fn sha256_digest(alloc: Global, bytes: &[u8]) -> Result<Text, AllocError>
     ensures { IfOk result (λ text. text ≡ digest_text Algorithm.Sha256 bytes.now) }
@@ -139,10 +104,12 @@ pub fn sha256_digest(alloc: Global, bytes: &[u8]) -> Result<Text, AllocError>
     digest_text(alloc, Algorithm::Sha256, bytes)
 }
 
-pub(crate) fn text_of(alloc: Global, name: &str, hash: &[u8]) -> Result<Text, AllocError>
-    ensures { IfOk result (λ text. text ≡ name.now ++ encode_lower hash.now) }
+// Returns the digest text of the hash.
+pub(crate) fn text_of(alloc: Global, algorithm: Algorithm, hash: &[u8]) -> Result<Text, AllocError>
+    ensures { IfOk result (λ text. text ≡ prefix_of algorithm ++ encode_lower hash.now) }
 {
-    let mut text = Text::new(alloc, name)?;
+    let mut text = Text::new(alloc, algorithm.name())?;
+    text.push_str(":")?;
     text.push_str(hex::encode(alloc, hash)?.as_str())?;
     Ok(text)
 }

@@ -1,3 +1,4 @@
+pub mod Algorithms
 pub mod ReadsBack
 pub mod Cuts
 pub mod Joins

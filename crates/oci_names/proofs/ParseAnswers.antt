@@ -5,8 +5,9 @@ use Rattle.oci_names.proofs.PartWords.{in_grammar, is_in_grammar}
 use Rattle.oci_names.specs.declared.parse_error.ParseError.{ParseError}
 use Rattle.oci_names.specs.declared.parse_error.ParseError.TheVariants.{NameEmpty, ReferenceInvalidFormat, NameTooLong, DigestUnsupported, DigestInvalidLength, WantOfMemory}
 use Rattle.oci_names.specs.declared.reference.Reference.{Reference}
+use Rattle.oci_names.specs.Algorithms.{algorithm_of, digits_in}
 use Rattle.oci_names.specs.Grammar.{before, after}
-use Rattle.oci_names.specs.Parts.{Parts, parts_of, is_grammatical, repository_named, digits_of, digest_refusal}
+use Rattle.oci_names.specs.Parts.{Parts, parts_of, is_grammatical, repository_named, digest_refusal}
 use Rattle.oci_names.specs.Reference.{reference_of, reference_named}
 use Rattle.oci_names.specs.Refusals.{Refuses, OfGrammar}
 use Rattle.oci_names.specs.Words.{InGrammar}
@@ -17,9 +18,9 @@ refused o r = option_map_or (λ e. Err e) o (Ok r)
 by_digest : (o : Option (List ℕ)) (r : Reference) (inside : Type 0) → inside → OfGrammar (refused (option_map_or digest_refusal o None) r) inside
 by_digest None r inside g = g
 by_digest (Some d) r inside g =
-    elim (digits_of (before 58 d)) as (λ n. OfGrammar (refused (option_map_or (λ n. if option_map_or length (after 58 d) 0 == n then None else Some DigestInvalidLength) n (Some DigestUnsupported)) r) inside) [
+    elim (algorithm_of (before 58 d)) as (λ o. OfGrammar (refused (option_map_or (λ a. if option_map_or length (after 58 d) 0 == digits_in a then None else Some DigestInvalidLength) o (Some DigestUnsupported)) r) inside) [
       | None ↦ g
-      | Some n ↦ elim (option_map_or length (after 58 d) 0 == n) as (λ b. OfGrammar (refused (if b then None else Some DigestInvalidLength) r) inside) [ true ↦ g | false ↦ g ]
+      | Some a ↦ elim (option_map_or length (after 58 d) 0 == digits_in a) as (λ b. OfGrammar (refused (if b then None else Some DigestInvalidLength) r) inside) [ true ↦ g | false ↦ g ]
     ]
 
 no_empty : (text : List ℕ) → (length text == 0) ≡ true → InGrammar (parts_of text) → ⊥

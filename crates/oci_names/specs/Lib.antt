@@ -1,3 +1,4 @@
+pub mod Algorithms
 pub mod Equalities
 pub mod Grammar
 pub mod Parts

@@ -7,6 +7,7 @@ use Rattle.std.specs.Str.{bytes_eq}
 use Rattle.oci_names.specs.declared.parse_error.ParseError.{ParseError}
 use Rattle.oci_names.specs.declared.parse_error.ParseError.TheVariants.{ReferenceInvalidFormat, NameTooLong}
 use Rattle.oci_names.specs.declared.parse_error.ParseError.TheVariants.{DigestUnsupported, DigestInvalidLength}
+use Rattle.oci_names.specs.Algorithms.{algorithm_of, digits_in}
 use Rattle.oci_names.specs.Grammar.{before, after, is_domain, is_path, is_tag, is_digest}
 
 -- the parts of a text
@@ -65,19 +66,12 @@ repository_named p = library_for (registry_named p.domain) p.path ++ p.path
 abbrev pub tag_named : Parts → Option (List ℕ)
 tag_named p = if is_none p.tag && is_none p.digest then Some (codes "latest") else p.tag
 
--- the number of digits in a digest of this algorithm
-abbrev pub digits_of : List ℕ → Option ℕ
-digits_of algorithm =
-    if bytes_eq algorithm (codes "sha256") then Some 64
-    else (if bytes_eq algorithm (codes "sha384") then Some 96
-    else (if bytes_eq algorithm (codes "sha512") then Some 128
-    else None))
-
 -- why a digest is refused
 abbrev pub digest_refusal : List ℕ → Option ParseError
 digest_refusal digest =
-    option_map_or (λ n. if option_map_or length (after 58 digest) 0 == n then None else Some DigestInvalidLength)
-    (digits_of (before 58 digest)) (Some DigestUnsupported)
+    option_map_or
+    (λ a. if option_map_or length (after 58 digest) 0 == digits_in a then None else Some DigestInvalidLength)
+    (algorithm_of (before 58 digest)) (Some DigestUnsupported)
 
 -- why parts are refused, the first cause first
 abbrev pub refusal_of : Parts → Option ParseError

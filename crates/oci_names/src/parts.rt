@@ -4,6 +4,7 @@ ghost use Rattle.std.specs.List.{list_any};
 ghost use Rattle.oci_names.specs.Parts as meaning;
 ghost use Rattle.oci_names.specs.Seen.{seen};
 
+use crate::algorithm::Algorithm;
 use crate::grammar::{cut, is_digest, is_domain, is_path, is_tag};
 use crate::parse_error::ParseError;
 use json_values::Text;
@@ -88,26 +89,14 @@ fn library_for(registry: &str, path: &str) -> &'static str
     }
 }
 
-/// Returns the number of digits in a digest of this algorithm.
-fn digits_of(algorithm: &str) -> Option<usize>
-    ensures { result ≡ meaning.digits_of algorithm.now }
-{
-    match algorithm {
-        "sha256" => Some(64),
-        "sha384" => Some(96),
-        "sha512" => Some(128),
-        _ => None,
-    }
-}
-
 fn digest_refusal(digest: &str) -> Option<ParseError>
     ensures { result ≡ meaning.digest_refusal digest.now }
 {
     let (algorithm, digits) = cut(digest, ':');
-    let Some(count) = digits_of(algorithm) else {
+    let Some(algorithm) = Algorithm::named(algorithm) else {
         return Some(ParseError::DigestUnsupported);
     };
-    if digits.unwrap_or("").len() == count {
+    if digits.unwrap_or("").len() == algorithm.digits() {
         None
     } else {
         Some(ParseError::DigestInvalidLength)

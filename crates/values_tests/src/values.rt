@@ -2,7 +2,8 @@
 use byte_streams::{MemorySink, PlainSink, Sink, SinkError, put_all};
 use json_tables::Holder;
 use json_values::{
-    Annotations, Blob, Copied, Json, List, Text, TextSet, ToValue, read_json, write_quoted,
+    Annotations, Blob, Copied, Json, List, Text, TextSet, ToValue, decimals_round_trip,
+    read_decimal, read_json, write_decimal, write_quoted,
 };
 use serde_json::Value;
 use std::alloc::{AllocError, Global};
@@ -164,6 +165,22 @@ fn a_text_is_written_with_its_escapes(rt: HostRuntime) {
     assert!(rt; holds(is_quoted(rt.alloc(), text, want)));
     let want = "\"\\b\\t\\f\\r\u{7f}\"";
     assert!(rt; holds(is_quoted(rt.alloc(), "\u{8}\t\u{c}\r\u{7f}", want)));
+}
+
+fn is_decimal(alloc: Global, number: u64, want: &str) -> Result<bool, AllocError> {
+    let digits = write_decimal(alloc, number)?;
+    Ok(digits.as_str() == want && read_decimal(want.as_bytes()) == Some(number))
+}
+
+#[test]
+fn numbers_below_2_64_are_read_from_decimal_digits(rt: HostRuntime) {
+    decimals_round_trip();
+    assert!(rt; holds(is_decimal(rt.alloc(), 0, "0")));
+    assert!(rt; holds(is_decimal(rt.alloc(), u64::MAX, "18446744073709551615")));
+    assert!(rt; read_decimal(b"007") == Some(7));
+    for text in ["", "+1", "1 ", "0x1", "18446744073709551616"] {
+        assert!(rt; read_decimal(text.as_bytes()).is_none(), "{text}");
+    }
 }
 
 fn is_json(alloc: Global, bytes: &[u8]) -> Result<bool, AllocError> {
