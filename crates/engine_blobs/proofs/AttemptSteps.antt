@@ -31,7 +31,8 @@ use Rattle.oci_digests.specs.declared.error.DigestError.TheVariants.{Verificatio
 use Rattle.engine_answers.specs.declared.blobs.Expected.{Expected}
 use Rattle.engine_answers.specs.declared.blobs.Plan.{Plan}
 use Rattle.engine_answers.specs.declared.blobs.Plan.TheVariants as plan
-use Rattle.engine_terms.specs.Error.{is_memory, Matches, MatchesError, ◌>>◌}
+use Rattle.json_values.specs.Refusals.{Matches, MatchesError, ◌>>◌}
+use Rattle.engine_terms.specs.Error.{is_memory}
 use Rattle.engine_answers.specs.Answers.{refused_answer, is_success, is_error, is_client_error, by_envelope, envelope_in}
 use Rattle.oci_digests.specs.Checks.{header_digest as digest_in, and_then as digest_and_then}
 use Rattle.oci_transport.specs.Headers.{first_of, digest_header}
@@ -136,7 +137,7 @@ unfolding attempt offer
 blob_wanting to limit digest request head last old mid new k e (inl row) reach le same steady is = rw row (reached_cut is_memory 10 request (blob_reading to limit digest) (blob_reply digest) head last k e reach le same steady is)
 blob_wanting to limit digest request head last old mid new k e (inr offered) reach le same steady is = rw offered.2 (reached_cut is_memory 10 request (offer_reading to limit digest) (offer_reply digest offered.1) head last k e reach le same steady is)
 
-unread_met : (p q : Plan) (r : Result (List ℕ) OciDistributionError) (link : Link) (k : AuthState) → p ≡ q → Matches r (unread_by q) → Meets is_memory (Done (unread_by p)) link link k k r
+unread_met : (p q : Plan) (r : Result (List ℕ) OciDistributionError) (link : Link) (k : AuthState) → p ≡ q → Matches is_memory r (unread_by q) → Meets is_memory (Done (unread_by p)) link link k k r
 unread_met p q r link k is says = said r (rw is says)
 
 -- the response is not read, for this cause
@@ -145,10 +146,17 @@ unfolding attempt offer blob_reading
 blob_unread to limit digest request head last old new k e (inl row) reach is = rw row (reached_headed 10 request (blob_reading to limit digest) (blob_reply digest) head last reach (ap (reading_by to limit) is) (unread_met (plan_of digest head) (plan.Refuse e) (Err (refusal.DigestError e)) new k is refl))
 blob_unread to limit digest request head last old new k e (inr offered) reach is = rw offered.2 (reached_headed 10 request (offer_reading to limit digest) (offer_reply digest offered.1) head last reach (offered_reading to limit digest head offered.0 ∙ ap (reading_by to limit) is) (offered_headed digest offered.1 head last offered.0 (unread_met (plan_of digest head) (plan.Refuse e) (Err (refusal.DigestError e)) new k is refl)))
 
-read_met : (url : List ℕ) (head : AnswerHead) (body : List ℕ) (p q : Plan) (r : Result (List ℕ) OciDistributionError) (link : Link) (k : AuthState) → p ≡ q → Matches r (read_by url (answer_of head body) q) → Meets is_memory (Done (read_by url (answer_of head body) p)) link link k k r
+-- a plan that reads the body does not refuse it
+pub judged_not : {P : Type 0} {p : Plan} {e : DigestError} → p ≡ plan.Judge → p ≡ plan.Refuse e → P
+judged_not judged refused = absurd (cc (judged, refused))
+
+pub poured_not : {P : Type 0} {p : Plan} {given : Option Expected} {own : Expected} {e : DigestError} → p ≡ plan.Pour given own → p ≡ plan.Refuse e → P
+poured_not poured refused = absurd (cc (poured, refused))
+
+read_met : (url : List ℕ) (head : AnswerHead) (body : List ℕ) (p q : Plan) (r : Result (List ℕ) OciDistributionError) (link : Link) (k : AuthState) → p ≡ q → Matches is_memory r (read_by url (answer_of head body) q) → Meets is_memory (Done (read_by url (answer_of head body) p)) link link k k r
 read_met url head body p q r link k is says = said r (rw is says)
 
-pub blob_read : (to : Destination) (limit : ℕ) (digest : List ℕ) (request : Request) (head : AnswerHead) (last : Request) (body : List ℕ) (old mid new : Link) (k : AuthState) (p : Plan) (r : Result (List ℕ) OciDistributionError) → {row : Row (List ℕ)} → Takes to limit digest request head row → Reaches 10 request head last old mid → plan_of digest head ≡ p → limit_of (reading_by to limit p) ≡ Some limit → mid.faults ≤ new.faults → new.told ≡ mid.told → Steady mid new → length body ≤ limit → ((rest : List ℕ) → mid.rest ≡ Some rest → body ≡ rest) → EndsUnbroken mid new → Matches r (read_by last.url (answer_of head body) p) → Meets is_memory row old new k k r
+pub blob_read : (to : Destination) (limit : ℕ) (digest : List ℕ) (request : Request) (head : AnswerHead) (last : Request) (body : List ℕ) (old mid new : Link) (k : AuthState) (p : Plan) (r : Result (List ℕ) OciDistributionError) → {row : Row (List ℕ)} → Takes to limit digest request head row → Reaches 10 request head last old mid → plan_of digest head ≡ p → limit_of (reading_by to limit p) ≡ Some limit → mid.faults ≤ new.faults → new.told ≡ mid.told → Steady mid new → length body ≤ limit → ((rest : List ℕ) → mid.rest ≡ Some rest → body ≡ rest) → EndsUnbroken mid new → Matches is_memory r (read_by last.url (answer_of head body) p) → Meets is_memory row old new k k r
 unfolding attempt offer blob_reading
 blob_read to limit digest request head last body old mid new k p r (inl row) reach is reads le same steady small whole unbroken says = rw row (reached_answered 10 request (blob_reading to limit digest) (blob_reply digest) head last limit body reach (ap (λ (q : Plan). limit_of (reading_by to limit q)) is ∙ reads) le same steady small whole unbroken (read_met last.url head body (plan_of digest head) p r new k is says))
 blob_read to limit digest request head last body old mid new k p r (inr offered) reach is reads le same steady small whole unbroken says = rw offered.2 (reached_answered 10 request (offer_reading to limit digest) (offer_reply digest offered.1) head last limit body reach (ap limit_of (offered_reading to limit digest head offered.0) ∙ (ap (λ (q : Plan). limit_of (reading_by to limit q)) is ∙ reads)) le same steady small whole unbroken (read_met last.url head body (plan_of digest head) p r new k is says))
@@ -158,10 +166,10 @@ unfolding attempt offer blob_reading
 blob_long to limit digest request head last old mid new k p (inl row) reach is reads le same steady long = rw row (reached_long 10 request (blob_reading to limit digest) (blob_reply digest) head last limit reach (ap (λ (q : Plan). limit_of (reading_by to limit q)) is ∙ reads) le same steady long (Meets-err is_memory new k refusal.BodyTooLong refl))
 blob_long to limit digest request head last old mid new k p (inr offered) reach is reads le same steady long = rw offered.2 (reached_long 10 request (offer_reading to limit digest) (offer_reply digest offered.1) head last limit reach (ap limit_of (offered_reading to limit digest head offered.0) ∙ (ap (λ (q : Plan). limit_of (reading_by to limit q)) is ∙ reads)) le same steady long (Meets-err is_memory new k refusal.BodyTooLong refl))
 
-pub blob_failed : (to : Destination) (limit : ℕ) (digest : List ℕ) (request : Request) (head : AnswerHead) (last : Request) (old mid new : Link) (k : AuthState) → {row : Row (List ℕ)} → Takes to limit digest request head row → Reaches 10 request head last old mid → mid.faults ≤ new.faults → new.told ≡ mid.told → Steady mid new → Increased mid.faults new.faults → Meets is_memory row old new k k (Err refusal.TransportFault)
-unfolding attempt offer
-blob_failed to limit digest request head last old mid new k (inl row) reach le same steady rose = rw row (reached_failed 10 request (blob_reading to limit digest) (blob_reply digest) head last reach le same steady rose (Meets-err is_memory new k refusal.TransportFault refl))
-blob_failed to limit digest request head last old mid new k (inr offered) reach le same steady rose = rw offered.2 (reached_failed 10 request (offer_reading to limit digest) (offer_reply digest offered.1) head last reach le same steady rose (Meets-err is_memory new k refusal.TransportFault refl))
+pub blob_failed : (to : Destination) (limit : ℕ) (digest : List ℕ) (request : Request) (head : AnswerHead) (last : Request) (old mid new : Link) (k : AuthState) (p : Plan) → {row : Row (List ℕ)} → Takes to limit digest request head row → Reaches 10 request head last old mid → plan_of digest head ≡ p → limit_of (reading_by to limit p) ≡ Some limit → mid.faults ≤ new.faults → new.told ≡ mid.told → Steady mid new → Increased mid.faults new.faults → Meets is_memory row old new k k (Err refusal.TransportFault)
+unfolding attempt offer blob_reading
+blob_failed to limit digest request head last old mid new k p (inl row) reach is reads le same steady rose = rw row (reached_failed 10 request (blob_reading to limit digest) (blob_reply digest) head last limit reach (ap (λ (q : Plan). limit_of (reading_by to limit q)) is ∙ reads) le same steady rose (Meets-err is_memory new k refusal.TransportFault refl))
+blob_failed to limit digest request head last old mid new k p (inr offered) reach is reads le same steady rose = rw offered.2 (reached_failed 10 request (offer_reading to limit digest) (offer_reply digest offered.1) head last limit reach (ap limit_of (offered_reading to limit digest head offered.0) ∙ (ap (λ (q : Plan). limit_of (reading_by to limit q)) is ∙ reads)) le same steady rose (Meets-err is_memory new k refusal.TransportFault refl))
 
 pub blob_spilled : (limit : ℕ) (digest : List ℕ) (request : Request) (head : AnswerHead) (last : Request) (old mid new : Link) (k : AuthState) (given : Option Expected) (own : Expected) → {row : Row (List ℕ)} → Takes IntoSink limit digest request head row → Reaches 10 request head last old mid → plan_of digest head ≡ plan.Pour given own → mid.faults ≤ new.faults → new.told ≡ mid.told → Steady mid new → Meets is_memory row old new k k (Err refusal.SinkFault)
 unfolding attempt offer blob_reading
@@ -169,7 +177,7 @@ blob_spilled limit digest request head last old mid new k given own (inl row) re
 blob_spilled limit digest request head last old mid new k given own (inr offered) reach is le same steady = rw offered.2 (reached_spilled 10 request (offer_reading IntoSink limit digest) (offer_reply digest offered.1) head last limit reach (offered_reading IntoSink limit digest head offered.0 ∙ ap (reading_by IntoSink limit) is) le same steady (Meets-err is_memory new k refusal.SinkFault refl))
 
 -- a response with another status is refused, or memory ran out while stating why
-pub blob_judged : (to : Destination) (limit : ℕ) (digest : List ℕ) (request : Request) (head : AnswerHead) (last : Request) (body : List ℕ) (old mid new : Link) (k : AuthState) (e : OciDistributionError) → {row : Row (List ℕ)} → Takes to limit digest request head row → Reaches 10 request head last old mid → plan_of digest head ≡ plan.Judge → mid.faults ≤ new.faults → new.told ≡ mid.told → Steady mid new → length body ≤ limit → ((rest : List ℕ) → mid.rest ≡ Some rest → body ≡ rest) → EndsUnbroken mid new → MatchesError e (refused_answer 200 last.url (answer_of head body)) → Meets is_memory row old new k k (Err e)
+pub blob_judged : (to : Destination) (limit : ℕ) (digest : List ℕ) (request : Request) (head : AnswerHead) (last : Request) (body : List ℕ) (old mid new : Link) (k : AuthState) (e : OciDistributionError) → {row : Row (List ℕ)} → Takes to limit digest request head row → Reaches 10 request head last old mid → plan_of digest head ≡ plan.Judge → mid.faults ≤ new.faults → new.told ≡ mid.told → Steady mid new → length body ≤ limit → ((rest : List ℕ) → mid.rest ≡ Some rest → body ≡ rest) → EndsUnbroken mid new → MatchesError is_memory e (refused_answer 200 last.url (answer_of head body)) → Meets is_memory row old new k k (Err e)
 blob_judged to limit digest request head last body old mid new k e {row} takes reach is le same steady small whole unbroken says = by_memory (is_memory e) refl says where
   by_memory : (b : Bool) → is_memory e ≡ b → MatchBool b (Unit {0}) (e ≡ refused_answer 200 last.url (answer_of head body)) → Meets is_memory row old new k k (Err e)
   by_memory true of_memory says = blob_wanting to limit digest request head last old mid new k e takes reach le same steady of_memory
@@ -202,7 +210,7 @@ offer_cut to limit digest next request old new k c = cut is_memory 10 request (o
 filled_says : (body : List ℕ) (x : Result Unit OciDistributionError) → x ≡ Ok tt → (x >> Ok body) ≡ Ok body
 filled_says body x is = rw is refl
 
-refused_says : (body : List ℕ) (e : OciDistributionError) (x : Result Unit OciDistributionError) → Matches {A = Unit} (Err e) x → Matches {A = List ℕ} (Err e) (x >> Ok body)
+refused_says : (body : List ℕ) (e : OciDistributionError) (x : Result Unit OciDistributionError) → Matches {A = Unit} is_memory (Err e) x → Matches {A = List ℕ} is_memory (Err e) (x >> Ok body)
 refused_says body e x h = by_memory (is_memory e) h where
   by_memory : (b : Bool) → MatchBool b (Unit {0}) (x ≡ Err e) → MatchBool b (Unit {0}) ((x >> Ok body) ≡ Err e)
   by_memory true h = tt
@@ -213,14 +221,14 @@ limit_into IntoSink limit = refl
 limit_into IntoMemory limit = refl
 
 -- the whole body was read, and its digests were compared
-pub blob_compared : (to : Destination) (limit : ℕ) (digest : List ℕ) (request : Request) (head : AnswerHead) (last : Request) (body : List ℕ) (old mid new : Link) (k : AuthState) (given : Option Expected) (own : Expected) (r : Result (List ℕ) OciDistributionError) → {row : Row (List ℕ)} → Takes to limit digest request head row → Reaches 10 request head last old mid → plan_of digest head ≡ plan.Pour given own → mid.faults ≤ new.faults → new.told ≡ mid.told → Steady mid new → length body ≤ limit → ((rest : List ℕ) → mid.rest ≡ Some rest → body ≡ rest) → EndsUnbroken mid new → Matches r (both_compared given own body >> Ok body) → Meets is_memory row old new k k r
+pub blob_compared : (to : Destination) (limit : ℕ) (digest : List ℕ) (request : Request) (head : AnswerHead) (last : Request) (body : List ℕ) (old mid new : Link) (k : AuthState) (given : Option Expected) (own : Expected) (r : Result (List ℕ) OciDistributionError) → {row : Row (List ℕ)} → Takes to limit digest request head row → Reaches 10 request head last old mid → plan_of digest head ≡ plan.Pour given own → mid.faults ≤ new.faults → new.told ≡ mid.told → Steady mid new → length body ≤ limit → ((rest : List ℕ) → mid.rest ≡ Some rest → body ≡ rest) → EndsUnbroken mid new → Matches is_memory r (both_compared given own body >> Ok body) → Meets is_memory row old new k k r
 blob_compared to limit digest request head last body old mid new k given own r takes reach is le same steady small whole unbroken says = blob_read to limit digest request head last body old mid new k (plan.Pour given own) r takes reach is (limit_into to limit) le same steady small whole unbroken says
 
 -- at the exit of a `?`
-pub compared_on : (e : OciDistributionError) (r s : Result (Unit {0}) OciDistributionError) → Matches {A = Unit {0}} (Err e) s → IsErrAnd r (λ x. x ≡ e) → Matches r s
+pub compared_on : (e : OciDistributionError) (r s : Result (Unit {0}) OciDistributionError) → Matches {A = Unit {0}} is_memory (Err e) s → IsErrAnd r (λ x. x ≡ e) → Matches is_memory r s
 compared_on e r s says is = let at = err_from_is_err_and r is in rw (at.1, at.2) says
 
-pub held_other : (limit : ℕ) (digest : List ℕ) (request : Request) (head : AnswerHead) (last : Request) (body : List ℕ) (old mid new : Link) (k : AuthState) (given : Option Expected) (own : Expected) (e : OciDistributionError) (r : Result (List ℕ) OciDistributionError) → {row : Row (List ℕ)} → Takes IntoMemory limit digest request head row → Reaches 10 request head last old mid → plan_of digest head ≡ plan.Pour given own → mid.faults ≤ new.faults → new.told ≡ mid.told → Steady mid new → length body ≤ limit → ((rest : List ℕ) → mid.rest ≡ Some rest → body ≡ rest) → EndsUnbroken mid new → Matches {A = Unit} (Err e) (both_compared given own body) → IsErrAnd r (λ x. x ≡ e) → Meets is_memory row old new k k r
+pub held_other : (limit : ℕ) (digest : List ℕ) (request : Request) (head : AnswerHead) (last : Request) (body : List ℕ) (old mid new : Link) (k : AuthState) (given : Option Expected) (own : Expected) (e : OciDistributionError) (r : Result (List ℕ) OciDistributionError) → {row : Row (List ℕ)} → Takes IntoMemory limit digest request head row → Reaches 10 request head last old mid → plan_of digest head ≡ plan.Pour given own → mid.faults ≤ new.faults → new.told ≡ mid.told → Steady mid new → length body ≤ limit → ((rest : List ℕ) → mid.rest ≡ Some rest → body ≡ rest) → EndsUnbroken mid new → Matches {A = Unit} is_memory (Err e) (both_compared given own body) → IsErrAnd r (λ x. x ≡ e) → Meets is_memory row old new k k r
 held_other limit digest request head last body old mid new k given own e r takes reach is le same steady small whole unbroken bad from_is = let at = err_from_is_err_and r from_is in rw (at.1, at.2) (blob_compared IntoMemory limit digest request head last body old mid new k given own (Err e) takes reach is le same steady small whole unbroken (refused_says body e (both_compared given own body) bad))
 
 pub held_whole : (limit : ℕ) (digest : List ℕ) (request : Request) (head : AnswerHead) (last : Request) (body : List ℕ) (old mid new : Link) (k : AuthState) (given : Option Expected) (own : Expected) → {row : Row (List ℕ)} → Takes IntoMemory limit digest request head row → Reaches 10 request head last old mid → plan_of digest head ≡ plan.Pour given own → mid.faults ≤ new.faults → new.told ≡ mid.told → Steady mid new → length body ≤ limit → ((rest : List ℕ) → mid.rest ≡ Some rest → body ≡ rest) → EndsUnbroken mid new → both_compared given own body ≡ Ok tt → Meets is_memory row old new k k (Ok body)
@@ -249,7 +257,7 @@ not_sink_answer url answer = by_status (nat_eq answer.status 401) (is_success an
   by_status false false false h = cc
 
 -- a response with another status is refused, or memory ran out while stating why
-pub spills_judged : (limit : ℕ) (digest : List ℕ) (request : Request) (head : AnswerHead) (last : Request) (body : List ℕ) (old mid new : Link) (k : AuthState) (sink : SinkState) (e : OciDistributionError) → {row : Row (List ℕ)} → Takes IntoSink limit digest request head row → Reaches 10 request head last old mid → plan_of digest head ≡ plan.Judge → mid.faults ≤ new.faults → new.told ≡ mid.told → Steady mid new → length body ≤ limit → ((rest : List ℕ) → mid.rest ≡ Some rest → body ≡ rest) → EndsUnbroken mid new → MatchesError e (refused_answer 200 last.url (answer_of head body)) → MeetsIntoSink row old new k k sink sink (Err e)
+pub spills_judged : (limit : ℕ) (digest : List ℕ) (request : Request) (head : AnswerHead) (last : Request) (body : List ℕ) (old mid new : Link) (k : AuthState) (sink : SinkState) (e : OciDistributionError) → {row : Row (List ℕ)} → Takes IntoSink limit digest request head row → Reaches 10 request head last old mid → plan_of digest head ≡ plan.Judge → mid.faults ≤ new.faults → new.told ≡ mid.told → Steady mid new → length body ≤ limit → ((rest : List ℕ) → mid.rest ≡ Some rest → body ≡ rest) → EndsUnbroken mid new → MatchesError is_memory e (refused_answer 200 last.url (answer_of head body)) → MeetsIntoSink row old new k k sink sink (Err e)
 spills_judged limit digest request head last body old mid new k sink e {row} takes reach is le same steady small whole unbroken says = by_memory (is_memory e) refl says where
   by_memory : (b : Bool) → is_memory e ≡ b → MatchBool b (Unit {0}) (e ≡ refused_answer 200 last.url (answer_of head body)) → MeetsIntoSink row old new k k sink sink (Err e)
   by_memory true of_memory says = spills_none sink (blob_wanting IntoSink limit digest request head last old mid new k e takes reach le same steady of_memory) (λ h. let is : e ≡ refusal.SinkFault = cc in absurd (cc (rw is at of_memory)))
@@ -285,13 +293,13 @@ both_not_sink : (x y : Result Unit OciDistributionError) → (x ≡ Err refusal.
 both_not_sink (Ok u) y f g h = g h
 both_not_sink (Err e) y f g h = f h
 
-not_sink : (e : OciDistributionError) (x : Result Unit OciDistributionError) (P : Type 0) → (x ≡ Err refusal.SinkFault → ⊥) → Matches {A = Unit} (Err e) x → ◌≡◌ {A = Result Unit OciDistributionError} (Err e) (Err refusal.SinkFault) → P
+not_sink : (e : OciDistributionError) (x : Result Unit OciDistributionError) (P : Type 0) → (x ≡ Err refusal.SinkFault → ⊥) → Matches {A = Unit} is_memory (Err e) x → ◌≡◌ {A = Result Unit OciDistributionError} (Err e) (Err refusal.SinkFault) → P
 not_sink e x P never says h = let is : e ≡ refusal.SinkFault = cc in absurd (never (rw is at says))
 
 -- the whole body was written, and does not have its digests
 pub spills_other : (limit : ℕ) (digest : List ℕ) (request : Request) (head : AnswerHead) (last : Request) (old mid new : Link) (k : AuthState) (before after : SinkState) (from to : Digesters) (given : Option Expected) (own : Expected) (e : OciDistributionError) (r : Result Unit OciDistributionError)
     → {row : Row (List ℕ)} → Takes IntoSink limit digest request head row → Reaches 10 request head last old mid → plan_of digest head ≡ plan.Pour given own → mid.faults ≤ new.faults → new.told ≡ mid.told → Steady mid new → before.faults ≤ after.faults → StreamsBody limit from to mid new before after → BothHold from (given_algorithm given) own.algorithm []
-    → ((m : List ℕ) → BothHold to (given_algorithm given) own.algorithm m → Matches {A = Unit} (Err e) (both_compared given own m)) → IsErrAnd r (λ x. x ≡ e)
+    → ((m : List ℕ) → BothHold to (given_algorithm given) own.algorithm m → Matches {A = Unit} is_memory (Err e) (both_compared given own m)) → IsErrAnd r (λ x. x ≡ e)
     → MeetsIntoSink row old new k k before after r
 spills_other limit digest request head last old mid new k before after from to given own e r takes reach is le same steady count pours fresh bad from_is = let at = err_from_is_err_and r from_is in rw (at.1, at.2) (record {
   body = pours.body;

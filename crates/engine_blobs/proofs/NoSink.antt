@@ -1,6 +1,6 @@
 -- What precedes a blob's request does not fail because of the sink.
 use Rattle.std.proofs.Common.{◌≡◌, ℕ, Bool, true, false, List, [], Option, Some, None, Result, Ok, Err, codes, refl, sym, subst, ◌∙◌}
-use Rattle.std.specs.Prelude.{MatchBool, if◌then◌else◌, nat_lt, ◌&&◌}
+use Rattle.std.specs.Prelude.{MatchBool, if◌then◌else◌, ◌&&◌, ok_or}
 use Rattle.std.specs.Result.{IsErrAnd}
 use Rattle.std.proofs.lemmas.Result.{err_from_is_err_and}
 use Rattle.std.specs.FinMap as map
@@ -8,7 +8,7 @@ use Rattle.url.specs.Parts.{Parts, serialize}
 use Rattle.byte_streams.specs.SinkState.{SinkState}
 use Rattle.oci_transport.specs.Link.{Link}
 use Rattle.oci_transport.specs.Urls.{request_url}
-use Rattle.oci_transport.specs.Headers.{Fields, added, held, is_header_value}
+use Rattle.oci_transport.specs.Headers.{Fields, added, is_header_value, has_room}
 use Rattle.oci_transport.specs.declared.message.Method.{Method}
 use Rattle.oci_names.specs.declared.reference.Reference.{Reference}
 use Rattle.oci_names.specs.Reference.{resolved_registry}
@@ -28,7 +28,8 @@ use Rattle.engine_terms.specs.declared.settings.Settings.{Settings}
 use Rattle.engine_terms.specs.declared.error.OciDistributionError.{OciDistributionError}
 use Rattle.engine_terms.specs.declared.error.OciDistributionError.TheVariants as refusal
 use Rattle.engine_terms.specs.declared.error.GenericCause.TheVariants.{HeaderText}
-use Rattle.engine_terms.specs.Error.{is_memory, ◌>>=◌ as ◌into◌}
+use Rattle.json_values.specs.Refusals.{◌>>=◌ as ◌into◌}
+use Rattle.engine_terms.specs.Error.{is_memory}
 use Rattle.engine_requests.specs.Addresses.{url_or, url_read, registry_text}
 use Rattle.engine_requests.specs.Requests.{with_header, with_accept, with_token, headers_of, request_of}
 use Rattle.engine_rows.specs.Rows.{Row, passed_over, taken, token_step, token_asked, kept_or_asked, token_by, token_for, goes_to, token_where, authorized, prepared}
@@ -52,8 +53,8 @@ into_calm (Ok a) f h each = each a
 into_calm (Err e) f h each = h
 
 header_calm : (headers : Fields) (name value : List ℕ) → Calm (with_header headers name value)
-header_calm headers name value = by_test (is_header_value value && nat_lt (held headers) 1000) where
-  by_test : (b : Bool) → Calm (if b then Ok (added headers name value) else Err (refusal.GenericError HeaderText))
+header_calm headers name value = by_test (is_header_value value && has_room headers) where
+  by_test : (b : Bool) → Calm (ok_or (if b then Some (added headers name value) else None) (refusal.GenericError HeaderText))
   by_test true = tt
   by_test false = λ h. cc
 

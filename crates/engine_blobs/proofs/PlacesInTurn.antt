@@ -13,7 +13,8 @@ use Rattle.engine_terms.specs.declared.error.OciDistributionError.{OciDistributi
 use Rattle.engine_terms.specs.declared.error.OciDistributionError.TheVariants as refusal
 use Rattle.engine_requests.specs.declared.sources.Place.{Place}
 use Rattle.engine_requests.specs.declared.sources.Place.TheVariants.{Web, Unfit}
-use Rattle.engine_terms.specs.Error.{is_memory, Matches}
+use Rattle.json_values.specs.Refusals.{Matches}
+use Rattle.engine_terms.specs.Error.{is_memory}
 use Rattle.engine_requests.specs.Requests.{manifest_types}
 use Rattle.engine_requests.specs.Sources.{place_of, with_place, places_of, asked_at}
 use Rattle.oci_transport.specs.declared.message.Method.TheVariants.{Get}
@@ -82,11 +83,11 @@ put_passed true h offered rest = absurd (cc h)
 put_passed {end = end} {l = l} {later = later} {r = r} false h offered rest = offered end l later r rest
 
 -- the request at the next place is refused
-pub put_unasked : (s : Settings) (digest : List ℕ) (p : Place) (ps : List Place) {link : Link} {k : AuthState} {sink : SinkState} (e : OciDistributionError) {r : Result Unit OciDistributionError} → Matches {A = Request} (Err e) (asked_at s p) → IsErrAnd r (λ x. x ≡ e) → MeetsIntoSink (then_at IntoSink s digest p ps) link link k k sink sink r
+pub put_unasked : (s : Settings) (digest : List ℕ) (p : Place) (ps : List Place) {link : Link} {k : AuthState} {sink : SinkState} (e : OciDistributionError) {r : Result Unit OciDistributionError} → Matches {A = Request} is_memory (Err e) (asked_at s p) → IsErrAnd r (λ x. x ≡ e) → MeetsIntoSink (then_at IntoSink s digest p ps) link link k k sink sink r
 put_unasked s digest p ps {sink = sink} e says is = spills_refused (λ next. tried IntoSink s digest ps next) sink (done_calm (asked_at s p) (asked_calm s p)) (said {A = Request} (Err e) says) (Meets-refused (λ next. tried IntoSink s digest ps next) (said {A = Request} (Err e) says)) is
 
 -- it is built
-pub put_asked : (s : Settings) (digest : List ℕ) (p : Place) (ps : List Place) (next : Request) {mid end : Link} {k l : AuthState} {before after : SinkState} {r : Result Unit OciDistributionError} → Matches (Ok next) (asked_at s p) → MeetsIntoSink (tried IntoSink s digest ps next) mid end k l before after r → MeetsIntoSink (then_at IntoSink s digest p ps) mid end k l before after r
+pub put_asked : (s : Settings) (digest : List ℕ) (p : Place) (ps : List Place) (next : Request) {mid end : Link} {k l : AuthState} {before after : SinkState} {r : Result Unit OciDistributionError} → Matches is_memory (Ok next) (asked_at s p) → MeetsIntoSink (tried IntoSink s digest ps next) mid end k l before after r → MeetsIntoSink (then_at IntoSink s digest p ps) mid end k l before after r
 put_asked s digest p ps next says rest = spills_next (λ next. tried IntoSink s digest ps next) (said (Ok next) says) rest
 
 -- ---- in memory
@@ -113,8 +114,8 @@ pub held_passed : {next p : Row (List ℕ)} {old new end : Link} {k l : AuthStat
 held_passed (Some found) h offered rest = absurd (cc h)
 held_passed {end = end} {l = l} {r = r} None h offered rest = offered end l r rest
 
-pub held_unasked : (s : Settings) (digest : List ℕ) (p : Place) (ps : List Place) {link : Link} {k : AuthState} (e : OciDistributionError) {r : Result (List ℕ) OciDistributionError} → Matches {A = Request} (Err e) (asked_at s p) → IsErrAnd r (λ x. x ≡ e) → Meets is_memory (then_at IntoMemory s digest p ps) link link k k r
+pub held_unasked : (s : Settings) (digest : List ℕ) (p : Place) (ps : List Place) {link : Link} {k : AuthState} (e : OciDistributionError) {r : Result (List ℕ) OciDistributionError} → Matches {A = Request} is_memory (Err e) (asked_at s p) → IsErrAnd r (λ x. x ≡ e) → Meets is_memory (then_at IntoMemory s digest p ps) link link k k r
 held_unasked s digest p ps e says is = refused (λ next. tried IntoMemory s digest ps next) (said {A = Request} (Err e) says) is
 
-pub held_asked : (s : Settings) (digest : List ℕ) (p : Place) (ps : List Place) (next : Request) {mid end : Link} {k l : AuthState} {r : Result (List ℕ) OciDistributionError} → Matches (Ok next) (asked_at s p) → Meets is_memory (tried IntoMemory s digest ps next) mid end k l r → Meets is_memory (then_at IntoMemory s digest p ps) mid end k l r
+pub held_asked : (s : Settings) (digest : List ℕ) (p : Place) (ps : List Place) (next : Request) {mid end : Link} {k l : AuthState} {r : Result (List ℕ) OciDistributionError} → Matches is_memory (Ok next) (asked_at s p) → Meets is_memory (tried IntoMemory s digest ps next) mid end k l r → Meets is_memory (then_at IntoMemory s digest p ps) mid end k l r
 held_asked s digest p ps next says rest = and_then (λ next. tried IntoMemory s digest ps next) (said (Ok next) says) rest

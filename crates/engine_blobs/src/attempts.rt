@@ -1,16 +1,19 @@
 // One request for a blob.
-ghost use Rattle.std.specs.Prelude.{ℕ, List};
+ghost use Rattle.std.specs.Prelude.{◌≡◌, ℕ, false, List, None, IfOk};
+ghost use Rattle.oci_digests.specs.declared.error.DigestError.{DigestError};
 ghost use Rattle.oci_auth.specs.declared.auth_state.AuthState.{AuthState};
 ghost use Rattle.oci_transport.specs.declared.message.Request.{Request as Asked};
 ghost use Rattle.oci_protocol.specs.Follow.{Reaches};
 ghost use Rattle.oci_protocol.specs.Runs.{Meets};
 ghost use Rattle.oci_transport.specs.Link.{Link, answer_of};
 ghost use Rattle.engine_answers.specs.Answers.{refused_answer};
-ghost use Rattle.engine_terms.specs.Error.{is_memory, Matches, MatchesError};
-ghost use Rattle.engine_answers.specs.Blobs.{both_compared};
+ghost use Rattle.json_values.specs.Refusals.{Matches, MatchesError};
+ghost use Rattle.engine_terms.specs.Error.{is_memory};
+ghost use Rattle.engine_answers.specs.Blobs.{plan_of, both_compared};
 ghost use Rattle.engine_rows.specs.Blobs.{IntoSink, IntoMemory, attempt, MeetsIntoSink};
 ghost use Rattle.engine_rows.specs.Offers.{Takes, Offered, OfferedInto, offer};
 ghost use Rattle.engine_rows.specs.Rows.{Row};
+ghost use Rattle.engine_steps.specs.BodyUnread.{LastBodyUnread};
 
 use byte_streams::Sink;
 use engine_answers::{Expected, Plan, both_compared, digesters, is_error, plan_of, refused_answer};
@@ -23,7 +26,7 @@ use std::alloc::{AllocError, Global};
 
 // Returns why the last response is refused, with its body.
 fn refusal_of(alloc: Global, reached: &Reached, body: Blob) -> OciDistributionError
-    ensures { MatchesError result
+    ensures { MatchesError is_memory result
         (refused_answer 200 reached.now.request.url (answer_of reached.now.head body)) }
 {
     match got_of(alloc, reached, body) {
@@ -42,10 +45,12 @@ fn put_reached<T: Transport, K: Sink>(
     reached: &Reached,
     out: &mut K,
 ) -> Result<(), OciDistributionError>
-    ensures { (old : Link) (request : Asked) (k : AuthState) (p : Row (List ℕ))
+    ensures run { (old : Link) (request : Asked) (k : AuthState) (p : Row (List ℕ))
         → Reaches 10 request reached.now.head reached.now.request old (T.state transport.old)
         → Takes IntoSink limit digest.now request reached.now.head p
         → MeetsIntoSink p old (T.state transport.new) k k (K.state out.old) (K.state out.new) result }
+    ensures untaken { (e : DigestError) → plan_of digest.now reached.now.head ≡ Plan.Refuse e
+        → T.state transport.new ≡ T.state transport.old }
 {
     let plan = plan_of(alloc, digest, &reached.head)?;
     match plan {
@@ -107,9 +112,11 @@ pub fn offer<T: Transport, K: Sink>(
     request: &Request,
     out: &mut K,
 ) -> Result<bool, OciDistributionError>
-    ensures { (k : AuthState) (next : Row (List ℕ)) → OfferedInto next
+    ensures run { (k : AuthState) (next : Row (List ℕ)) → OfferedInto next
         (offer IntoSink limit digest.now next request.now)
         (T.state transport.old) (T.state transport.new) k (K.state out.old) (K.state out.new) result }
+    ensures untaken { IfOk result (λ put. put ≡ false
+        → LastBodyUnread (T.state transport.old) (T.state transport.new)) }
 {
     let reached = match reach(alloc, transport, 10, request) {
         Ok(reached) => reached,
@@ -130,7 +137,7 @@ fn have_digests(
     given: &Option<Expected>,
     own: &Expected,
 ) -> Result<(), OciDistributionError>
-    ensures { Matches result (both_compared given.now own.now body.now) }
+    ensures { Matches is_memory result (both_compared given.now own.now body.now) }
 {
     let mut digesters = digesters(given, own);
     digesters.update(body.as_slice());
@@ -146,10 +153,12 @@ fn held_reached<T: Transport>(
     digest: &str,
     reached: &Reached,
 ) -> Result<Blob, OciDistributionError>
-    ensures { (old : Link) (request : Asked) (k : AuthState) (p : Row (List ℕ))
+    ensures run { (old : Link) (request : Asked) (k : AuthState) (p : Row (List ℕ))
         → Reaches 10 request reached.now.head reached.now.request old (T.state transport.old)
         → Takes IntoMemory limit digest.now request reached.now.head p
         → Meets is_memory p old (T.state transport.new) k k result }
+    ensures untaken { (e : DigestError) → plan_of digest.now reached.now.head ≡ Plan.Refuse e
+        → T.state transport.new ≡ T.state transport.old }
 {
     let plan = plan_of(alloc, digest, &reached.head)?;
     match plan {
@@ -203,8 +212,11 @@ pub fn held_offer<T: Transport>(
     digest: &str,
     request: &Request,
 ) -> Result<Option<Blob>, OciDistributionError>
-    ensures { (k : AuthState) (next : Row (List ℕ)) → Offered next (offer IntoMemory limit digest.now next request.now)
+    ensures run { (k : AuthState) (next : Row (List ℕ)) → Offered next
+        (offer IntoMemory limit digest.now next request.now)
         (T.state transport.old) (T.state transport.new) k result }
+    ensures untaken { IfOk result (λ found. found ≡ None
+        → LastBodyUnread (T.state transport.old) (T.state transport.new)) }
 {
     let reached = match reach(alloc, transport, 10, request) {
         Ok(reached) => reached,

@@ -14,7 +14,8 @@ use Rattle.oci_protocol.proofs.Laws.{Meets-err}
 use Rattle.oci_protocol.proofs.RedirectSteps.{reached_headed, reached_answered, reached_long, reached_failed, reached_cut, missed, cut}
 use Rattle.engine_terms.specs.declared.error.OciDistributionError.{OciDistributionError}
 use Rattle.engine_terms.specs.declared.error.OciDistributionError.TheVariants as refusal
-use Rattle.engine_terms.specs.Error.{is_memory, Matches}
+use Rattle.json_values.specs.Refusals.{Matches}
+use Rattle.engine_terms.specs.Error.{is_memory}
 use Rattle.engine_answers.specs.Answers.{is_error}
 use Rattle.engine_rows.proofs.Exits.{said}
 use Rattle.engine_steps.proofs.HelperTrees.{reached_untaken}
@@ -42,13 +43,13 @@ judged_cut limit takes made request old new k c = cut is_memory 10 request (judg
 
 -- the response is used
 pub judged_taken : {A : Type 0} (limit : ℕ) (takes : AnswerHead → Bool) (made : AnswerHead → Result A OciDistributionError) (request : Request) (head : AnswerHead) (last : Request) (old new : Link) (k : AuthState) (r : Result A OciDistributionError)
-    → Reaches 10 request head last old new → takes head ≡ true → Matches r (made head) → Meets is_memory (judged limit takes made request) old new k k r
+    → Reaches 10 request head last old new → takes head ≡ true → Matches is_memory r (made head) → Meets is_memory (judged limit takes made request) old new k k r
 unfolding judged
 judged_taken limit takes made request head last old new k r reach is says = reached_headed 10 request (judged_reading limit takes) (judged_reply made) head last reach (unread limit takes head is) (said r says)
 
 -- the same at the exit of a `?`
 pub judged_on : {A : Type 0} (limit : ℕ) (takes : AnswerHead → Bool) (made : AnswerHead → Result A OciDistributionError) (request : Request) (head : AnswerHead) (last : Request) (old new : Link) (k : AuthState) (e : OciDistributionError) (r : Result A OciDistributionError)
-    → Reaches 10 request head last old new → takes head ≡ true → Matches {A = A} (Err e) (made head) → IsErrAnd r (λ x. x ≡ e) → Meets is_memory (judged limit takes made request) old new k k r
+    → Reaches 10 request head last old new → takes head ≡ true → Matches {A = A} is_memory (Err e) (made head) → IsErrAnd r (λ x. x ≡ e) → Meets is_memory (judged limit takes made request) old new k k r
 judged_on limit takes made request head last old new k e r reach is says at_exit = let at = err_from_is_err_and r at_exit in rw (at.1, at.2) (judged_taken limit takes made request head last old new k (Err e) reach is says)
 
 unless_memory : (b : Bool) (P : Type 0) → P → MatchBool b (Unit {0}) P
@@ -60,7 +61,7 @@ pub judged_refused : {A : Type 0} (limit : ℕ) (takes : AnswerHead → Bool) (m
     → Reaches 10 request head last old mid → takes head ≡ false → mid.faults ≤ new.faults → new.told ≡ mid.told → Steady mid new → Refuses limit last.url head mid new e → Meets is_memory (judged limit takes made request) old new k k (Err e)
 unfolding judged
 judged_refused limit takes made request head last old mid new k e reach is le same steady (inl wanted) = reached_cut is_memory 10 request (judged_reading limit takes) (judged_reply made) head last k e reach le same steady wanted
-judged_refused limit takes made request head last old mid new k e reach is le same steady (inr (inl x)) = rw x.0 (reached_failed 10 request (judged_reading limit takes) (judged_reply made) head last reach le same steady x.1 (Meets-err is_memory new k refusal.TransportFault refl))
+judged_refused limit takes made request head last old mid new k e reach is le same steady (inr (inl x)) = rw x.0 (reached_failed 10 request (judged_reading limit takes) (judged_reply made) head last limit reach (read limit takes head is) le same steady x.1 (Meets-err is_memory new k refusal.TransportFault refl))
 judged_refused limit takes made request head last old mid new k e reach is le same steady (inr (inr (inl x))) = rw x.0 (reached_long 10 request (judged_reading limit takes) (judged_reply made) head last limit reach (read limit takes head is) le same steady x.1 (Meets-err is_memory new k refusal.BodyTooLong refl))
 judged_refused limit takes made request head last old mid new k e reach is le same steady (inr (inr (inr x))) = reached_answered 10 request (judged_reading limit takes) (judged_reply made) head last limit x.0 reach (read limit takes head is) le same steady x.1 x.2 x.3 (said (Err e) (unless_memory (is_memory e) _ (ap Err (sym x.4))))
 
@@ -78,15 +79,15 @@ pub streams_too : (range : Option ByteRange) (head : AnswerHead) (b : Bool) → 
 unfolding streams_or_passes
 streams_too range head b is too = ap (λ (c : Bool). c || is_streamed range head.status) is ∙ too
 
-pub passed_over : (range : Option ByteRange) (digest : List ℕ) (head : AnswerHead) → is_error head.status ≡ true → Matches (Ok None) (opening_unless_error range digest head)
+pub passed_over : (range : Option ByteRange) (digest : List ℕ) (head : AnswerHead) → is_error head.status ≡ true → Matches is_memory (Ok None) (opening_unless_error range digest head)
 unfolding opening_unless_error
 passed_over range digest head is = ap (λ (b : Bool). if b then Ok None else some_opening (opening range digest head)) is
 
-pub opened_here : (range : Option ByteRange) (digest : List ℕ) (head : AnswerHead) (o : Opening) → is_error head.status ≡ false → opening range digest head ≡ Ok o → Matches (Ok (Some o)) (opening_unless_error range digest head)
+pub opened_here : (range : Option ByteRange) (digest : List ℕ) (head : AnswerHead) (o : Opening) → is_error head.status ≡ false → opening range digest head ≡ Ok o → Matches is_memory (Ok (Some o)) (opening_unless_error range digest head)
 unfolding opening_unless_error
 opened_here range digest head o is made = ap (λ (b : Bool). if b then Ok None else some_opening (opening range digest head)) is ∙ ap some_opening made
 
-pub not_opened : (range : Option ByteRange) (digest : List ℕ) (head : AnswerHead) (e : OciDistributionError) → is_error head.status ≡ false → Matches {A = Opening} (Err e) (opening range digest head) → Matches {A = Option Opening} (Err e) (opening_unless_error range digest head)
+pub not_opened : (range : Option ByteRange) (digest : List ℕ) (head : AnswerHead) (e : OciDistributionError) → is_error head.status ≡ false → Matches {A = Opening} is_memory (Err e) (opening range digest head) → Matches {A = Option Opening} is_memory (Err e) (opening_unless_error range digest head)
 unfolding opening_unless_error
 not_opened range digest head e is = by_memory (is_memory e) where
   made : opening range digest head ≡ Err e → opening_unless_error range digest head ≡ Err e

@@ -1,4 +1,3 @@
-pub mod Decimals
 pub mod HeadOutcomes
 pub mod JoinedPieces
 pub mod NextPlaces

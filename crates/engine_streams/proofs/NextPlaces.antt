@@ -12,7 +12,8 @@ use Rattle.oci_protocol.proofs.Conversations.{Extends-none, Extends-more}
 use Rattle.engine_terms.specs.declared.error.OciDistributionError.{OciDistributionError}
 use Rattle.engine_terms.specs.declared.settings.Settings.{Settings}
 use Rattle.engine_requests.specs.declared.sources.Place.{Place}
-use Rattle.engine_terms.specs.Error.{is_memory, Matches}
+use Rattle.json_values.specs.Refusals.{Matches}
+use Rattle.engine_terms.specs.Error.{is_memory}
 use Rattle.engine_requests.specs.Sources.{place_of, with_place, places_of}
 use Rattle.engine_rows.specs.Rows.{Row}
 use Rattle.engine_rows.proofs.Exits.{meets_told}
@@ -85,7 +86,7 @@ first_found s range digest urls i url found place request answered o lt is named
 
 pub next_unasked : (s : Settings) (range : Option ByteRange) (digest : List ℕ) (urls : List (List ℕ)) (i : ℕ) (url : List ℕ) (found : Option Place) (place : Place) (request : Request) (answered : Option Opening) (e : OciDistributionError) {old new : Link} {k l : AuthState} {r : Result Opening OciDistributionError}
     → i < length urls → url ≡ get_or urls i url → found ≡ place_of url → found ≡ Some place
-    → Meets is_memory (offered s.max_body_bytes range digest request) old new k l (Ok answered) → answered ≡ None → Matches {A = Request} (Err e) (ranged_at s range place) → IsErrAnd r (λ x. x ≡ e) → Meets is_memory (tried s range digest (places_of (drop i urls)) request) old new k l r
+    → Meets is_memory (offered s.max_body_bytes range digest request) old new k l (Ok answered) → answered ≡ None → Matches {A = Request} is_memory (Err e) (ranged_at s range place) → IsErrAnd r (λ x. x ≡ e) → Meets is_memory (tried s range digest (places_of (drop i urls)) request) old new k l r
 unfolding tried
 next_unasked s range digest urls i url found place request answered e lt is named here met none says at_exit = at_place s range digest urls i url found place request lt is named here (and_then _ (rw none at met) (refused _ (said _ says) at_exit))
 

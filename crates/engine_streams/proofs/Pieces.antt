@@ -11,7 +11,8 @@ use Rattle.engine_answers.specs.Blobs.{both_compared, compared as one_compared}
 use Rattle.engine_answers.specs.declared.blobs.Expected.{Expected}
 use Rattle.engine_terms.specs.declared.error.OciDistributionError.{OciDistributionError}
 use Rattle.engine_terms.specs.declared.error.OciDistributionError.TheVariants as refusal
-use Rattle.engine_terms.specs.Error.{is_memory, Matches, ◌>>◌ as ◌and_then◌}
+use Rattle.json_values.specs.Refusals.{Matches, ◌>>◌ as ◌and_then◌}
+use Rattle.engine_terms.specs.Error.{is_memory}
 use Rattle.engine_streams.specs.Streams.{compared, digests_of, NextCause, NothingLeft, Next, HasFailed}
 use Rattle.engine_streams.specs.declared.head.Digests.{Digests}
 use Rattle.engine_streams.specs.declared.stream.SizedStream.{SizedStream}
@@ -41,7 +42,7 @@ compared_kind : (digests : Option Digests) (bytes : List ℕ) (e : OciDistributi
 compared_kind None bytes e h = absurd (cc h)
 compared_kind (Some d) bytes e h = both_kind d.given d.own bytes e h
 
-compare_refused : (limit : ℕ) (gave : List ℕ) (digests : Option Digests) (old new : Link) (e : OciDistributionError) → NothingLeft old new → Matches {A = Unit} (Err e) (compared digests gave) → NextCause limit gave digests old new e
+compare_refused : (limit : ℕ) (gave : List ℕ) (digests : Option Digests) (old new : Link) (e : OciDistributionError) → NothingLeft old new → Matches {A = Unit} is_memory (Err e) (compared digests gave) → NextCause limit gave digests old new e
 compare_refused limit gave digests old new e ended says = by_memory (is_memory e) refl says where
   by_kind : IsOfDigest e → compared digests gave ≡ Err e → NextCause limit gave digests old new e
   by_kind k h = rw k.1 (ended, h ∙ ap Err k.1)
@@ -56,7 +57,7 @@ empty (x ∷ xs) h = absurd (omega (arith, h))
 
 -- the same at the exit of a `?`
 pub compare_on : (limit : ℕ) (gave : List ℕ) (after : SizedStream) (old new : Link) (piece : List ℕ) (before : Option Digests) (e : OciDistributionError) (r : Result (Option (List ℕ)) OciDistributionError)
-    → Takes piece old new → length piece ≡ 0 → digests_of after.check ≡ before → Matches {A = Unit} (Err e) (compared before gave) → HasFailed after → IsErrAnd r (λ x. x ≡ e) → Next limit gave after old new r
+    → Takes piece old new → length piece ≡ 0 → digests_of after.check ≡ before → Matches {A = Unit} is_memory (Err e) (compared before gave) → HasFailed after → IsErrAnd r (λ x. x ≡ e) → Next limit gave after old new r
 compare_on limit gave after old new piece before e r takes none same says failed at_exit =
     let at = err_from_is_err_and r at_exit in
     rw (at.1, at.2) (rw same (compare_refused limit gave before old new e (rw (empty piece none) at takes) says), failed)

@@ -6,7 +6,7 @@ use Rattle.oci_protocol.specs.Proto.{Reading, Unread, Within, Reply, Headed, Ans
 use Rattle.oci_protocol.specs.Proto.{Done}
 use Rattle.oci_protocol.specs.Follow.{follow}
 use Rattle.engine_answers.specs.Answers.{is_error, refused_answer}
-use Rattle.engine_terms.specs.Error.{◌>>=◌ as ◌into◌}
+use Rattle.json_values.specs.Refusals.{◌>>=◌ as ◌into◌}
 use Rattle.engine_requests.specs.Sources.{asked_at}
 use Rattle.engine_terms.specs.declared.error.OciDistributionError.{OciDistributionError}
 use Rattle.engine_terms.specs.declared.error.OciDistributionError.TheVariants as refusal

@@ -1,31 +1,17 @@
 -- What the head of a blob's response states about its body (OCI distribution specification, "Pulling blobs").
-use Rattle.std.specs.Prelude.{ℕ, ◌^◌, Bool, true, false, ◌&&◌, ◌||◌, ◌==◌, List, option_and_then}
-use Rattle.std.specs.Prelude.{Option, Some, None, Result, Ok, codes, length, nat_le, nat_lt, if◌then◌else◌}
-use Rattle.std.specs.List.{list_all}
-use Rattle.std.specs.Str.Parse.{digits_value}
+use Rattle.std.specs.Prelude.{ℕ, Bool, true, false, ◌||◌, ◌==◌, List, option_and_then, Option, Some, None, Result, Ok, codes}
+use Rattle.json_values.specs.Decimals.{decimal_of}
 use Rattle.oci_transport.specs.Headers.{Fields, first_of}
 use Rattle.oci_transport.specs.declared.message.AnswerHead.{AnswerHead}
 use Rattle.engine_answers.specs.Answers.{header_digest, is_success, or_digest_error}
 use Rattle.engine_answers.specs.Blobs.{digest_expected}
-use Rattle.engine_terms.specs.Error.{◌>>=◌}
+use Rattle.json_values.specs.Refusals.{◌>>=◌}
 use Rattle.engine_answers.specs.declared.blobs.Expected.{Expected}
 use Rattle.engine_terms.specs.declared.error.OciDistributionError.{OciDistributionError}
 use Rattle.engine_streams.specs.Range.{is_part}
 use Rattle.engine_streams.specs.declared.head.Digests.{Digests}
 use Rattle.engine_streams.specs.declared.head.Opening.{Opening}
 use Rattle.engine_streams.specs.declared.range.ByteRange.{ByteRange}
-
-abbrev pub is_digit : ℕ → Bool
-is_digit b = nat_le 48 b && nat_le b 57
-
--- at least one digit, and nothing else
-abbrev pub is_decimal : List ℕ → Bool
-is_decimal text = nat_le 1 (length text) && list_all is_digit text
-
--- the number below 2^64 that decimal digits denote
-abbrev pub decimal_of : List ℕ → Option ℕ
-decimal_of text =
-    if is_decimal text && nat_lt (digits_value 10 text) (2 ^ 64) then Some (digits_value 10 text) else None
 
 abbrev pub content_length : Fields → Option ℕ
 content_length headers = option_and_then decimal_of (first_of (codes "content-length") headers)

@@ -5,7 +5,7 @@ use Rattle.oci_transport.specs.declared.message.Request.{Request}
 use Rattle.engine_terms.specs.declared.error.GenericCause.TheVariants.{RangeOverflow}
 use Rattle.engine_terms.specs.declared.error.OciDistributionError.{OciDistributionError}
 use Rattle.engine_terms.specs.declared.error.OciDistributionError.TheVariants as refusal
-use Rattle.engine_terms.specs.Error.{◌>>=◌}
+use Rattle.json_values.specs.Refusals.{◌>>=◌}
 use Rattle.engine_requests.specs.Requests.{with_header}
 use Rattle.engine_streams.specs.declared.range.ByteRange.{ByteRange}
 

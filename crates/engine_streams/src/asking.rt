@@ -1,10 +1,12 @@
 // Sends requests for a blob whose bytes are left to be taken.
-ghost use Rattle.std.specs.Prelude.{◌≡◌, ◌≤◌, IfOk, IfSome};
+ghost use Rattle.std.specs.Prelude.{◌≡◌, ◌≤◌, None, IfOk, IfSome};
 ghost use Rattle.oci_auth.specs.declared.auth_state.AuthState.{AuthState};
 ghost use Rattle.oci_transport.specs.Link.{Steady};
 ghost use Rattle.oci_protocol.specs.Runs.{Meets};
-ghost use Rattle.engine_terms.specs.Error.{is_memory, Matches};
+ghost use Rattle.json_values.specs.Refusals.{Matches};
+ghost use Rattle.engine_terms.specs.Error.{is_memory};
 ghost use Rattle.engine_requests.specs.Sources.{places_of};
+ghost use Rattle.engine_steps.specs.BodyUnread.{LastBodyUnread};
 ghost use Rattle.engine_streams.specs.Blobs.{tried, IsLeft, Refuses};
 ghost use Rattle.engine_streams.specs.Asking.{asked, offered, ranged_at};
 
@@ -91,6 +93,8 @@ fn offered<T: Transport>(
     ensures run { (k : AuthState) → Meets is_memory
         (offered limit range.now digest.now request.now)
         (T.state transport.old) (T.state transport.new) k k result }
+    ensures untaken { IfOk result (λ found. found ≡ None
+        → LastBodyUnread (T.state transport.old) (T.state transport.new)) }
     ensures left { IfOk result (λ found. IfSome found (λ opening.
         IsLeft range.now digest.now opening
         (T.state transport.old) (T.state transport.new))) }
@@ -117,7 +121,7 @@ fn ranged_at(
     range: &Option<ByteRange>,
     place: Place,
 ) -> Result<Request, OciDistributionError>
-    ensures { Matches result (ranged_at settings.now range.now place) }
+    ensures { Matches is_memory result (ranged_at settings.now range.now place) }
 {
     let request = asked_at(alloc, settings, place)?;
     let text = onward(alloc, range)?;

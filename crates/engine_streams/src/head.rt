@@ -1,18 +1,16 @@
 // What the head of a blob's response states about its body.
 ghost use Rattle.std.specs.Prelude.{◌≡◌, IfOk};
-ghost use Rattle.std.specs.List.{list_all};
 ghost use Rattle.oci_transport.specs.Headers.{first_of};
-ghost use Rattle.engine_terms.specs.Error.{Matches};
-ghost use Rattle.engine_streams.specs.Head.{is_digit, is_decimal, decimal_of, content_length, expected, given};
-ghost use Rattle.engine_streams.specs.Head.{unless_part, opening, is_streamed};
+ghost use Rattle.json_values.specs.Refusals.{Matches};
+ghost use Rattle.engine_terms.specs.Error.{is_memory};
+ghost use Rattle.engine_streams.specs.Head.{content_length, expected, given, is_streamed, opening, unless_part};
 
 use crate::range::{ByteRange, is_part};
 use engine_answers::{Expected, digest_expected, header_digest, is_success, of_digest};
 use engine_terms::OciDistributionError;
-use json_values::Text;
+use json_values::{Text, read_decimal};
 use oci_transport::{AnswerHead, Headers};
 use std::alloc::Global;
-use std::str;
 
 /// The digests that the bytes of a blob must have: that of the response's header, if it names one, and the
 /// descriptor's.
@@ -32,59 +30,24 @@ pub struct Opening {
     pub digests: Option<Digests>,
 }
 
-fn is_digit(byte: u8) -> bool
-    ensures { result ≡ is_digit byte }
-{
-    48 <= byte && byte <= 57
-}
-
-fn all_digits(text: &[u8]) -> bool
-    ensures { result ≡ list_all is_digit text.now }
-{
-    text.iter().all(|byte| is_digit(*byte))
-}
-
-fn is_decimal(text: &[u8]) -> bool
-    ensures { result ≡ is_decimal text.now }
-{
-    if text.is_empty() {
-        return false;
-    }
-    all_digits(text)
-}
-
-/// Returns the number below 2^64 that decimal digits denote.
-#[tactic(auto, using(crate::proofs::Decimals::decimal_rules))]
-pub fn decimal_of(text: &[u8]) -> Option<u64>
-    ensures { result ≡ decimal_of text.now }
-{
-    if !is_decimal(text) {
-        return None;
-    }
-    let Ok(digits) = str::from_utf8(text) else {
-        return None;
-    };
-    digits.parse::<u64>().ok()
-}
-
 fn content_length(headers: &Headers) -> Option<u64>
     ensures { result ≡ content_length headers.now }
 {
     match headers.first("content-length") {
-        Some(value) => decimal_of(value),
+        Some(value) => read_decimal(value),
         None => None,
     }
 }
 
 fn expected(alloc: Global, text: &str) -> Result<Expected, OciDistributionError>
-    ensures { Matches result (expected text.now) }
+    ensures { Matches is_memory result (expected text.now) }
 {
     let expected = of_digest(digest_expected(alloc, text))?;
     Ok(expected)
 }
 
 fn given(alloc: Global, value: &Option<Text>) -> Result<Option<Expected>, OciDistributionError>
-    ensures { Matches result (given value.now) }
+    ensures { Matches is_memory result (given value.now) }
 {
     match value {
         Some(text) => {
@@ -113,7 +76,7 @@ pub(crate) fn read_head(
     digest: &str,
     head: &AnswerHead,
 ) -> Result<Opening, OciDistributionError>
-    ensures { Matches result (opening range.now digest.now head.now) }
+    ensures { Matches is_memory result (opening range.now digest.now head.now) }
 {
     let own = expected(alloc, digest)?;
     let value = header_digest(alloc, &head.headers)?;

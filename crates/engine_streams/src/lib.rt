@@ -9,7 +9,6 @@ mod range;
 mod stream;
 
 pub use blobs::{BlobResponse, pull_blob_stream, pull_blob_stream_partial};
-pub use head::decimal_of;
 pub use laws::pieces_are_the_body;
 pub use range::ByteRange;
 pub use stream::SizedStream;

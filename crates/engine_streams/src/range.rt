@@ -1,6 +1,7 @@
 // Which bytes of a blob are requested.
 ghost use Rattle.std.specs.Prelude.{◌≡◌, IfOk};
-ghost use Rattle.engine_terms.specs.Error.{Matches};
+ghost use Rattle.json_values.specs.Refusals.{Matches};
+ghost use Rattle.engine_terms.specs.Error.{is_memory};
 ghost use Rattle.engine_streams.specs.Range.{onward_text, text_by, range_text, onward, with_range, is_part};
 
 use engine_requests::with_header;
@@ -27,7 +28,7 @@ fn onward_text(alloc: Global, offset: u64) -> Result<Text, AllocError>
 }
 
 fn text_by(alloc: Global, offset: u64, length: Option<u64>) -> Result<Text, OciDistributionError>
-    ensures { Matches result (text_by offset length) }
+    ensures { Matches is_memory result (text_by offset length) }
 {
     let mut text = onward_text(alloc, offset)?;
     let Some(length) = length else {
@@ -47,7 +48,7 @@ pub(crate) fn range_text(
     alloc: Global,
     range: &Option<ByteRange>,
 ) -> Result<Option<Text>, OciDistributionError>
-    ensures { Matches result (range_text range.now) }
+    ensures { Matches is_memory result (range_text range.now) }
 {
     let Some(range) = range else {
         return Ok(None);
@@ -72,7 +73,7 @@ pub(crate) fn with_range(
     request: Request,
     range: &Option<Text>,
 ) -> Result<Request, OciDistributionError>
-    ensures { Matches result (with_range range.now request) }
+    ensures { Matches is_memory result (with_range range.now request) }
 {
     let Some(range) = range else {
         return Ok(request);

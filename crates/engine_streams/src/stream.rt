@@ -1,8 +1,9 @@
 // A stream of a blob's bytes.
 ghost use Rattle.std.specs.Prelude.{◌≡◌, ◌≤◌, ◌<◌, ◌++◌, [], List, ℕ, length, Ok, Err, None, IfOk, IfErr, OnErr, ◌⊎◌};
 ghost use Rattle.json_values.specs.Counts.{Increased};
-ghost use Rattle.oci_transport.specs.Link.{Steady, Takes};
-ghost use Rattle.engine_terms.specs.Error.{Matches};
+ghost use Rattle.oci_transport.specs.Link.{Steady, Takes, AtMostOnePiece};
+ghost use Rattle.json_values.specs.Refusals.{Matches};
+ghost use Rattle.engine_terms.specs.Error.{is_memory};
 ghost use Rattle.engine_streams.specs.Streams.{Hashed, compared, digests_of, opening_of, IsOpen, HasEnded};
 ghost use Rattle.engine_streams.specs.Streams.{HasFailed, Next, GivesPrefix};
 
@@ -68,7 +69,7 @@ fn hash(check: &mut Option<Check>, piece: &[u8])
 
 fn compare(alloc: Global, check: &mut Option<Check>) -> Result<(), OciDistributionError>
     ensures digests { digests_of check.new ≡ digests_of check.old }
-    ensures exact { (m : List ℕ) → Hashed check.old m → Matches result (compared (digests_of check.old) m) }
+    ensures exact { (m : List ℕ) → Hashed check.old m → Matches is_memory result (compared (digests_of check.old) m) }
 {
     if let Some(check) = check {
         let Digests { given, own } = &check.digests;
@@ -83,6 +84,7 @@ fn piece<T: Transport>(alloc: Global, transport: &mut T) -> Result<Blob, OciDist
     ensures steady { Steady (T.state transport.old) (T.state transport.new) }
     ensures count { (T.state transport.old).faults ≤ (T.state transport.new).faults }
     ensures taken { IfOk result (λ piece. Takes piece (T.state transport.old) (T.state transport.new)) }
+    ensures once { AtMostOnePiece (T.state transport.old) (T.state transport.new) }
     ensures refused { IfErr result (λ e. (e ≡ OciDistributionError.WantOfMemory)
         ⊎ ((e ≡ OciDistributionError.TransportFault)
         × Increased (T.state transport.old).faults (T.state transport.new).faults)) }
@@ -132,6 +134,7 @@ impl SizedStream {
             × (T.state transport.new ≡ T.state transport.old) }
         ensures failed { HasFailed self.old → (result ≡ Err OciDistributionError.StreamFailed) × HasFailed self.new
             × (T.state transport.new ≡ T.state transport.old) }
+        ensures once { AtMostOnePiece (T.state transport.old) (T.state transport.new) }
         ensures refused { OnErr result (HasFailed self.new) }
         ensures stays { opening_of self.new ≡ opening_of self.old }
         ensures told { (T.state transport.new).told ≡ (T.state transport.old).told }

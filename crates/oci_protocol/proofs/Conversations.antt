@@ -6,7 +6,7 @@ pub use Rattle.oci_transport.proofs.TakenBytes.{Steady-more}
 
 -- an unchanged link is `Steady`
 pub Steady-none : (link : Link) → Steady link link
-Steady-none link = record { steady = λ a h. h; quiet = λ a h quiet. refl }
+Steady-none link = record { steady = λ a h. h; quiet = λ a h quiet. refl; exact = refl }
 
 pub AnsweredBy-append : (t : Answering) (place : ℕ) (x y : List Exchange) → AnsweredBy t place x → AnsweredBy t (place + length x) y → AnsweredBy t place (x ++ y)
 AnsweredBy-append t place [] y first second = subst (λ n. AnsweredBy t n y) (omega arith) second

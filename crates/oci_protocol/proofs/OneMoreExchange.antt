@@ -25,7 +25,7 @@ follows_none n request last link is = record { conversation = []; told = Extends
 
 headed_replies : (request : Request) (head : AnswerHead) (body : List ℕ) (before after : ℕ) → before ≤ after → Replies request read_none before (record { request = request; answer = Some (answer_of head body); faults = before }) after (Headed head)
 unfolding read_none
-headed_replies request head body before after le = record { request_is = refl; faults_is = refl; count = le; reply_is = (body, refl, refl) }
+headed_replies request head body before after le = record { request_is = refl; faults_is = refl; count = le; reply_is = (body, refl, refl); fails_as = tt }
 
 pub follows_more : (n : ℕ) (request : Request) (left left' : ℕ) (last next : Request) (head : AnswerHead) (old mid new : Link) → Follows n request left last old mid → left ≡ suc left' → Answers last head mid new → mid.faults ≤ new.faults → Some next ≡ redirected last head → Follows n request left' next old new
 follows_more n request left left' last next head old mid new follows is sent le to = record {

@@ -1,11 +1,10 @@
-use Rattle.std.proofs.Common.{◌≡◌, ◌<◌, ◌≤◌, ◌+◌, ◌-◌, ℕ, List, [], ◌++◌, Option, Some, length, length-append, refl, sym, ap, subst, ◌∙◌, append-nil, append_assoc, arith}
+use Rattle.std.proofs.Common.{◌≡◌, ◌<◌, ◌≤◌, ◌+◌, ◌-◌, ℕ, List, [], ◌++◌, Option, Some, length, length-append, refl, sym, ap, ◌∙◌, append-nil, append_assoc, arith}
 use Rattle.std.proofs.lemmas.List.{nil_from_length}
-use Rattle.oci_transport.specs.Link.{Link, Steady, Takes, TakesPast}
-use Rattle.oci_transport.proofs.TakenBytes.{taken_more, taken_ends, taken_past}
-use Rattle.oci_protocol.proofs.Conversations.{Steady-none}
+use Rattle.oci_transport.specs.Link.{Link, Steady, KeepsCount, Takes, TakesPast, AllButLastWithin}
+use Rattle.oci_transport.proofs.TakenBytes.{taken_none, taken_more, taken_ends, taken_past, taken_calm, within_last, within_failed}
 use Rattle.byte_streams.specs.SinkState.{SinkState, Adds, AddsPrefix}
 use Rattle.byte_streams.proofs.Sinks.{adds_none, adds_more}
-use Rattle.oci_digests.specs.declared.digester.Algorithm.{Algorithm}
+use Rattle.oci_names.specs.declared.algorithm.Algorithm.{Algorithm}
 use Rattle.oci_digests.specs.declared.both.Digesters.{Digesters}
 use Rattle.oci_digests.specs.Both.{BothHold}
 use Rattle.oci_protocol.specs.StreamedBody.{StreamedSoFar, StreamsBody, StreamsPrefix}
@@ -22,7 +21,7 @@ poured_none limit ds link sink = record {
   taken_is = refl;
   small = omega arith;
   so_far = record {
-    taken = record { told = refl; count = omega arith; stays = Steady-none link; front = λ rest h. (rest, refl, h) };
+    taken = taken_none link;
     put = adds_none sink sink refl;
     count = omega arith;
     hashed = λ a b h. h;
@@ -81,3 +80,14 @@ poured_part limit taken piece from to old mid new before between after p takes p
 
 pub poured_long : (limit taken : ℕ) (piece : List ℕ) (from to : Digesters) (old mid new : Link) (before after : SinkState) → Poured limit taken from to old mid before after → Takes piece mid new → limit - taken < length piece → TakesPast limit old new
 poured_long limit taken piece from to old mid new before after p takes long = taken_past limit p.body piece old mid new p.so_far.taken (omega (arith, p.taken_is, p.small)) takes (omega (arith, p.taken_is, long))
+
+-- no call failed
+pub poured_calm : (limit taken : ℕ) (piece : List ℕ) (from to : Digesters) (old mid new : Link) (before after : SinkState) → Poured limit taken from to old mid before after → Takes piece mid new → KeepsCount old new
+poured_calm limit taken piece from to old mid new before after p takes = taken_calm p.body piece old mid new p.so_far.taken takes
+
+-- at most one more piece was taken
+pub poured_last : (limit taken : ℕ) (piece : List ℕ) (from to : Digesters) (old mid new : Link) (before after : SinkState) → Poured limit taken from to old mid before after → Takes piece mid new → AllButLastWithin limit old new
+poured_last limit taken piece from to old mid new before after p takes = within_last limit p.body piece old mid new p.so_far.taken (omega (arith, p.taken_is, p.small)) takes
+
+pub poured_failed : (limit taken : ℕ) (from to : Digesters) (old mid new : Link) (before after : SinkState) → Poured limit taken from to old mid before after → new.pieces ≡ mid.pieces → AllButLastWithin limit old new
+poured_failed limit taken from to old mid new before after p same = within_failed limit p.body old mid new p.so_far.taken (omega (arith, p.taken_is, p.small)) same

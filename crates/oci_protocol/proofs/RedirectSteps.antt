@@ -22,6 +22,7 @@ turned_replies request reading m e between head next to r = record {
   faults_is = r.faults_is;
   count = r.count;
   reply_is = (r.reply_is.0, r.reply_is.1, ap (λ (o : Option Request). unread_if o (reading head)) to);
+  fails_as = tt;
 }
 
 -- a trail leads from one request to the last one
@@ -103,7 +104,7 @@ reached_headed n request reading next head last {old} {new} reach unread rest = 
     (follow_asked reach.left last reading next (Headed head) reach.final (record {
       exchange = record { request = last; answer = Some (answer_of head reach.sent.body); faults = reach.mid.faults };
       told = reach.sent.added;
-      replies = record { request_is = refl; faults_is = refl; count = reach.count; reply_is = (reach.sent.body, refl, final_reading reach.left last reading head reach.final ∙ unread) };
+      replies = record { request_is = refl; faults_is = refl; count = reach.count; reply_is = (reach.sent.body, refl, final_reading reach.left last reading head reach.final ∙ unread); fails_as = tt };
       unbroken = λ t before by told. tt;
     }) rest)
 
@@ -115,6 +116,10 @@ breaks_at : (head : AnswerHead) (last : Request) (old mid : Link) (sent : Answer
     → BreaksOff (exchange_of last (Some (answer_of head sent.body)) old) (answer_of head sent.body) bytes mid
 breaks_at head last old mid sent t before bytes by shown breaks = record { table = t; before = before; answers = sent.added.stays.steady t by; told = sent.added.told before shown; answered = sym (sent.added.table t before by shown).0; breaks = breaks }
 
+-- the rest of the body is exposed
+hidden : {rest : Option (List ℕ)} {body : List ℕ} → rest ≡ Some body → rest ≡ None → ⊥
+hidden some none = cc (some, none)
+
 -- the whole body was read
 pub reached_answered : {K A E : Type 0} {of_memory : E → Bool} (n : ℕ) (request : Request) (reading : AnswerHead → Reading) (next : Request → Reply → Proto K (Result A E)) (head : AnswerHead) (last : Request) (limit : ℕ) (body : List ℕ) {old mid new end : Link} {k l : K} {r : Result A E}
     → Reaches n request head last old mid → limit_of (reading head) ≡ Some limit → mid.faults ≤ new.faults → new.told ≡ mid.told → Steady mid new → length body ≤ limit → ((rest : List ℕ) → mid.rest ≡ Some rest → body ≡ rest) → EndsUnbroken mid new
@@ -125,8 +130,8 @@ reached_answered n request reading next head last limit body {old} {mid} {new} r
       hears told = record {
         exchange = record { request = last; answer = Some (answer_of head body); faults = reach.mid.faults };
         told = told;
-        replies = record { request_is = refl; faults_is = refl; count = omega (arith, reach.count); reply_is = (limit, refl, limit_at reach.left last reading head limit reach.final is, small) };
-        unbroken = λ t before by shown bytes breaks. unbroken _ _ bytes (breaks_at head last reach.mid mid reach.sent t before bytes by shown breaks);
+        replies = record { request_is = refl; faults_is = refl; count = omega (arith, reach.count); reply_is = (limit, refl, limit_at reach.left last reading head limit reach.final is, small); fails_as = tt };
+        unbroken = λ t before by shown bytes breaks. hidden (reach.sent.rest before shown) (unbroken _ _ bytes (breaks_at head last reach.mid mid reach.sent t before bytes by shown breaks)).1;
       }
 
       by_told : (t : Option (List Exchange)) → reach.mid.told ≡ t → AddsExchange last (reading_at reach.left last reading) reach.mid new (Answered (answer_of head body))
@@ -157,17 +162,17 @@ reached_long n request reading next head last limit {old} {mid} {new} reach is l
       sent : Exchange
       sent = exchange_of last (Some (answer_of head reach.sent.body)) reach.mid
 
-      passed : (t : Answering) (before : List Exchange) → reach.mid.answers ≡ Some t → reach.mid.told ≡ Some before → IsUnbroken t (length before) read sent new.faults TooLong
+      passed : (t : Answering) (before : List Exchange) → reach.mid.answers ≡ Some t → reach.mid.told ≡ Some before → IsUnbroken t (length before) read sent TooLong
       passed t before by shown answer other bytes is_answer is_limit breaks small =
           let same : other ≡ limit = one_limit read head reach.sent.body answer other limit is_answer is_limit (limit_at reach.left last reading head limit reach.final is) in
           let past = long.past reach.sent.body (reach.sent.rest before shown) in
           long.unbroken _ _ bytes (breaks_at head last reach.mid mid reach.sent t before bytes by shown breaks) (past.0, past.1, omega (arith, small, same, past.2))
 
-      hears : (body : List ℕ) → limit < length body → Extends reach.mid new (exchange_of last (Some (answer_of head body)) reach.mid ∷ []) → ((t : Answering) (before : List Exchange) → reach.mid.answers ≡ Some t → reach.mid.told ≡ Some before → IsUnbroken t (length before) read (exchange_of last (Some (answer_of head body)) reach.mid) new.faults TooLong) → AddsExchange last read reach.mid new TooLong
+      hears : (body : List ℕ) → limit < length body → Extends reach.mid new (exchange_of last (Some (answer_of head body)) reach.mid ∷ []) → ((t : Answering) (before : List Exchange) → reach.mid.answers ≡ Some t → reach.mid.told ≡ Some before → IsUnbroken t (length before) read (exchange_of last (Some (answer_of head body)) reach.mid) TooLong) → AddsExchange last read reach.mid new TooLong
       hears body h told unbroken = record {
         exchange = record { request = last; answer = Some (answer_of head body); faults = reach.mid.faults };
         told = told;
-        replies = record { request_is = refl; faults_is = refl; count = omega (arith, reach.count); reply_is = (answer_of head body, limit, refl, limit_at reach.left last reading head limit reach.final is, h) };
+        replies = record { request_is = refl; faults_is = refl; count = omega (arith, reach.count); reply_is = (answer_of head body, limit, refl, limit_at reach.left last reading head limit reach.final is, h); fails_as = tt };
         unbroken = unbroken;
       }
 
@@ -175,15 +180,23 @@ reached_long n request reading next head last limit {old} {mid} {new} reach is l
       by_told None none = hears (replicate (limit + 1) 0) (omega (arith, length-replicate {A = ℕ} (limit + 1) 0)) (Extends-untold reach.mid new _ none (Steady-more reach.mid mid new reach.sent.added.stays steady)) (λ t before by shown. absurd (cc (none, shown)))
       by_told (Some before) h = hears reach.sent.body (longer reach.sent.body limit new (long.past reach.sent.body (reach.sent.rest before h))) (Extends-still reach.mid mid new _ reach.sent.added same steady) passed
 
+-- a body that is read
+read_failed : (left : ℕ) (last : Request) (reading : AnswerHead → Reading) (head : AnswerHead) (limit : ℕ) (body : List ℕ) (answer : Answer) → IsFinal left last head → limit_of (reading head) ≡ Some limit → Some (answer_of head body) ≡ Some answer → reading_at left last reading (head_part answer) ≡ Unread → ⊥
+read_failed left last reading head limit body answer final reads is unread =
+    let same : answer_of head body ≡ answer = cc is in
+    let found : reading_at left last reading head ≡ Unread = ap (λ a. reading_at left last reading (head_part a)) same ∙ unread in
+    let none : Some limit ≡ None = sym (limit_at left last reading head limit final reads) ∙ ap limit_of found in
+    cc none
+
 -- a fault occurred while the body was read
-pub reached_failed : {K A E : Type 0} {of_memory : E → Bool} (n : ℕ) (request : Request) (reading : AnswerHead → Reading) (next : Request → Reply → Proto K (Result A E)) (head : AnswerHead) (last : Request) {old mid new end : Link} {k l : K} {r : Result A E}
-    → Reaches n request head last old mid → mid.faults ≤ new.faults → new.told ≡ mid.told → Steady mid new → Increased mid.faults new.faults
+pub reached_failed : {K A E : Type 0} {of_memory : E → Bool} (n : ℕ) (request : Request) (reading : AnswerHead → Reading) (next : Request → Reply → Proto K (Result A E)) (head : AnswerHead) (last : Request) (limit : ℕ) {old mid new end : Link} {k l : K} {r : Result A E}
+    → Reaches n request head last old mid → limit_of (reading head) ≡ Some limit → mid.faults ≤ new.faults → new.told ≡ mid.told → Steady mid new → Increased mid.faults new.faults
     → Meets of_memory (next last Failed) new end k l r → Meets of_memory (follow n request reading next) old end k l r
-reached_failed n request reading next head last {old} {mid} {new} reach le same steady rose rest = follows_met n request reading next reach.left last old reach.mid reach.follows
+reached_failed n request reading next head last limit {old} {mid} {new} reach reads le same steady rose rest = follows_met n request reading next reach.left last old reach.mid reach.follows
     (follow_asked reach.left last reading next Failed tt (record {
       exchange = record { request = last; answer = Some (answer_of head reach.sent.body); faults = reach.mid.faults };
       told = Extends-still reach.mid mid new _ reach.sent.added same steady;
-      replies = record { request_is = refl; faults_is = refl; count = omega (arith, reach.count); reply_is = omega (arith, reach.count) };
+      replies = record { request_is = refl; faults_is = refl; count = omega (arith, reach.count); reply_is = omega (arith, reach.count); fails_as = λ answer is unread. read_failed reach.left last reading head limit reach.sent.body answer reach.final reads is unread };
       unbroken = λ t before by told. tt;
     }) rest)
 
@@ -195,7 +208,7 @@ reached_spilled n request reading next head last limit {old} {mid} {new} reach i
     (follow_asked reach.left last reading next SinkFailed tt (record {
       exchange = record { request = last; answer = Some (answer_of head reach.sent.body); faults = reach.mid.faults };
       told = Extends-still reach.mid mid new _ reach.sent.added same steady;
-      replies = record { request_is = refl; faults_is = refl; count = omega (arith, reach.count); reply_is = (answer_of head reach.sent.body, limit, refl, final_reading reach.left last reading head reach.final ∙ is) };
+      replies = record { request_is = refl; faults_is = refl; count = omega (arith, reach.count); reply_is = (answer_of head reach.sent.body, limit, refl, final_reading reach.left last reading head reach.final ∙ is); fails_as = tt };
       unbroken = λ t before by told. tt;
     }) rest)
 
@@ -212,7 +225,7 @@ missed n request reading next {old} {new} m rest = follows_met n request reading
     (follow_asked m.left m.last reading next Failed tt (record {
       exchange = record { request = m.last; answer = None; faults = m.mid.faults };
       told = m.added;
-      replies = record { request_is = refl; faults_is = refl; count = m.count; reply_is = m.rose };
+      replies = record { request_is = refl; faults_is = refl; count = m.count; reply_is = m.rose; fails_as = λ answer is unread. absurd (cc is) };
       unbroken = λ t before by told. tt;
     }) (rest m.last))
 

@@ -5,7 +5,7 @@ use Rattle.oci_transport.specs.declared.message.Request.{Request}
 use Rattle.oci_transport.specs.declared.message.Answer.{Answer}
 use Rattle.oci_transport.specs.declared.message.AnswerHead.{AnswerHead}
 use Rattle.oci_transport.specs.declared.message.Exchange.{Exchange}
-use Rattle.oci_protocol.specs.Proto.{Reading, Piped, limit_of, read_none, Reply, Headed, Answered, Failed, TooLong, SinkFailed, Proto}
+use Rattle.oci_protocol.specs.Proto.{Reading, Unread, Piped, limit_of, read_none, Reply, Headed, Answered, Failed, TooLong, SinkFailed, Proto}
 use Rattle.oci_protocol.specs.Runs.{head_part, Replies, Runs}
 use Rattle.oci_protocol.specs.Follow.{unread_if, turned, go_if, turn, follow, Trail, IsFinal}
 use Rattle.oci_protocol.specs.Trails.{Settles, Trailed}
@@ -19,15 +19,19 @@ pipe_settled : (to : Option Request) (reading : Reading) (limit : ℕ) → unrea
 pipe_settled None reading limit h = h
 pipe_settled (Some s) reading limit h = absurd (cc h)
 
+unread_settled : (to : Option Request) (reading : Reading) → reading ≡ Unread → unread_if to reading ≡ Unread
+unread_settled None reading h = h
+unread_settled (Some s) reading h = refl
+
 -- the reply to the last request, as the row parses it
 last_reply : (request : Request) (reading : AnswerHead → Reading) (n m : ℕ) (e : Exchange) (after : ℕ) (reply : Reply) → Settles (suc n) request reply → Replies request (turned request reading) m e after reply → Replies request reading m e after reply
 unfolding turned
 last_reply request reading n m e after (Headed head) (inl none) r = absurd (cc none)
-last_reply request reading n m e after (Headed head) (inr none) r = record { request_is = r.request_is; faults_is = r.faults_is; count = r.count; reply_is = (r.reply_is.0, r.reply_is.1, ap (λ (o : Option Request). unread_if o (reading head)) (sym none) ∙ r.reply_is.2) }
-last_reply request reading n m e after (Answered answer) settles r = record { request_is = r.request_is; faults_is = r.faults_is; count = r.count; reply_is = (r.reply_is.0, r.reply_is.1, (read_settled (redirected request (head_part answer)) (reading (head_part answer)) r.reply_is.0 r.reply_is.2).1, r.reply_is.3) }
-last_reply request reading n m e after Failed settles r = record { request_is = r.request_is; faults_is = r.faults_is; count = r.count; reply_is = r.reply_is }
-last_reply request reading n m e after TooLong settles r = record { request_is = r.request_is; faults_is = r.faults_is; count = r.count; reply_is = (r.reply_is.0, r.reply_is.1, r.reply_is.2, (read_settled (redirected request (head_part r.reply_is.0)) (reading (head_part r.reply_is.0)) r.reply_is.1 r.reply_is.3).1, r.reply_is.4) }
-last_reply request reading n m e after SinkFailed settles r = record { request_is = r.request_is; faults_is = r.faults_is; count = r.count; reply_is = (r.reply_is.0, r.reply_is.1, r.reply_is.2, pipe_settled (redirected request (head_part r.reply_is.0)) (reading (head_part r.reply_is.0)) r.reply_is.1 r.reply_is.3) }
+last_reply request reading n m e after (Headed head) (inr none) r = record { request_is = r.request_is; faults_is = r.faults_is; count = r.count; reply_is = (r.reply_is.0, r.reply_is.1, ap (λ (o : Option Request). unread_if o (reading head)) (sym none) ∙ r.reply_is.2); fails_as = tt }
+last_reply request reading n m e after (Answered answer) settles r = record { request_is = r.request_is; faults_is = r.faults_is; count = r.count; reply_is = (r.reply_is.0, r.reply_is.1, (read_settled (redirected request (head_part answer)) (reading (head_part answer)) r.reply_is.0 r.reply_is.2).1, r.reply_is.3); fails_as = tt }
+last_reply request reading n m e after Failed settles r = record { request_is = r.request_is; faults_is = r.faults_is; count = r.count; reply_is = r.reply_is; fails_as = λ answer is unread. r.fails_as answer is (unread_settled (redirected request (head_part answer)) (reading (head_part answer)) unread) }
+last_reply request reading n m e after TooLong settles r = record { request_is = r.request_is; faults_is = r.faults_is; count = r.count; reply_is = (r.reply_is.0, r.reply_is.1, r.reply_is.2, (read_settled (redirected request (head_part r.reply_is.0)) (reading (head_part r.reply_is.0)) r.reply_is.1 r.reply_is.3).1, r.reply_is.4); fails_as = tt }
+last_reply request reading n m e after SinkFailed settles r = record { request_is = r.request_is; faults_is = r.faults_is; count = r.count; reply_is = (r.reply_is.0, r.reply_is.1, r.reply_is.2, pipe_settled (redirected request (head_part r.reply_is.0)) (reading (head_part r.reply_is.0)) r.reply_is.1 r.reply_is.3); fails_as = tt }
 
 -- the first exchange is the last
 trailed_last : {K A : Type 0} (n : ℕ) (request : Request) (reading : AnswerHead → Reading) (next : Request → Reply → Proto K A) (k : K) (m : ℕ) (e : Exchange) (c : List Exchange) (count : ℕ) (reply : Reply) (after : ℕ) (l : K) (a : A)
@@ -61,7 +65,7 @@ trailed_more n request to reading next k m e c count head after l a leads r t = 
   left = t.left;
   last = t.last;
   before = t.before;
-  trail = (count, head, to, leads, record { request_is = r.request_is; faults_is = r.faults_is; count = r.count; reply_is = (r.reply_is.0, r.reply_is.1, refl) }, t.trail);
+  trail = (count, head, to, leads, record { request_is = r.request_is; faults_is = r.faults_is; count = r.count; reply_is = (r.reply_is.0, r.reply_is.1, refl); fails_as = tt }, t.trail);
   count = t.count;
   reply = t.reply;
   replies = t.replies;

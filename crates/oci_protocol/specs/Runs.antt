@@ -24,6 +24,11 @@ IsReply reading e after TooLong = (answer : Answer) × (limit : ℕ) × (e.answe
 IsReply reading e after SinkFailed = (answer : Answer) × (limit : ℕ) × (e.answer ≡ Some answer)
     × (reading (head_part answer) ≡ Piped limit)
 
+-- a failure is that of the send, or of a call while the body was read: not of a body that is not read
+abbrev pub FailsAsRead : (AnswerHead → Reading) → Exchange → Reply → Type 0
+FailsAsRead reading e Failed = (answer : Answer) → e.answer ≡ Some answer → reading (head_part answer) ≡ Unread → ⊥
+FailsAsRead reading e reply = Unit {0}
+
 -- the exchange is that of the request, sent at the fault count `before`, and this reply is possible for it
 pub record Replies (request : Request)
     (reading : AnswerHead → Reading) (before : ℕ) (e : Exchange) (after : ℕ) (reply : Reply) : Type 0 where
@@ -31,15 +36,15 @@ pub record Replies (request : Request)
   pub faults_is : e.faults ≡ before
   pub count : before ≤ after
   pub reply_is : IsReply reading e after reply
+  pub fails_as : FailsAsRead reading e reply
 
--- a body that is known to be truncated was read beyond that index only after its fault: the fault count increased
-abbrev pub IsUnbroken : Answering → ℕ → (AnswerHead → Reading) → Exchange → ℕ → Reply → Type 0
-IsUnbroken t place reading e after (Answered answer) = (bytes : ℕ) → t.breaks place ≡ Some bytes
-    → Increased e.faults after
-IsUnbroken t place reading e after TooLong = (answer : Answer) (limit bytes : ℕ) → e.answer ≡ Some answer
-    → limit_of (reading (head_part answer)) ≡ Some limit → t.breaks place ≡ Some bytes → bytes ≤ limit
-    → Increased e.faults after
-IsUnbroken t place reading e after reply = Unit {0}
+-- a body that is known to be truncated was not read beyond that index: its fault is met first, and the reply is then a
+-- failure
+abbrev pub IsUnbroken : Answering → ℕ → (AnswerHead → Reading) → Exchange → Reply → Type 0
+IsUnbroken t place reading e (Answered answer) = (bytes : ℕ) → t.breaks place ≡ Some bytes → ⊥
+IsUnbroken t place reading e TooLong = (answer : Answer) (limit bytes : ℕ) → e.answer ≡ Some answer
+    → limit_of (reading (head_part answer)) ≡ Some limit → t.breaks place ≡ Some bytes → bytes ≤ limit → ⊥
+IsUnbroken t place reading e reply = Unit {0}
 
 -- one exchange was added, if exchanges are exposed, and this is its reply
 pub record AddsExchange (request : Request) (reading : AnswerHead → Reading) (old new : Link)
@@ -48,7 +53,7 @@ pub record AddsExchange (request : Request) (reading : AnswerHead → Reading) (
   pub told : Extends old new (exchange ∷ [])
   pub replies : Replies request reading old.faults exchange new.faults reply
   pub unbroken : (t : Answering) (before : List Exchange) → old.answers ≡ Some t → old.told ≡ Some before
-      → IsUnbroken t (length before) reading exchange new.faults reply
+      → IsUnbroken t (length before) reading exchange reply
 
 -- P holds for the added exchanges, if exchanges are exposed
 pub record Told (P : List Exchange → Type 0) (old new : Link) : Type 0 where
@@ -75,7 +80,7 @@ RunsBy t place (Done x) k m [] n l a = (m ≡ n) × (k ≡ l) × (x ≡ a)
 RunsBy t place (Done x) k m (e ∷ c) n l a = ⊥
 RunsBy t place (Ask request reading next) k m [] n l a = ⊥
 RunsBy t place (Ask request reading next) k m (e ∷ c) n l a = (after : ℕ) × (reply : Reply)
-    × Replies request reading m e after reply × IsUnbroken t place reading e after reply
+    × Replies request reading m e after reply × IsUnbroken t place reading e reply
     × RunsBy t (suc place) (next reply) k after c n l a
 RunsBy t place (Recall next) k m c n l a = RunsBy t place (next k) k m c n l a
 RunsBy t place (Keep kept rest) k m c n l a = RunsBy t place rest kept m c n l a

@@ -1,7 +1,7 @@
 use Rattle.std.specs.Prelude.{◌≡◌, ◌≤◌, ℕ, List, [], ◌++◌, Some, Option, length}
 use Rattle.oci_transport.specs.Link.{Link, HasTaken, EndsUnbroken}
 use Rattle.byte_streams.specs.SinkState.{SinkState, Adds}
-use Rattle.oci_digests.specs.declared.digester.Algorithm.{Algorithm}
+use Rattle.oci_names.specs.declared.algorithm.Algorithm.{Algorithm}
 use Rattle.oci_digests.specs.declared.both.Digesters.{Digesters}
 use Rattle.oci_digests.specs.Both.{BothHold}
 

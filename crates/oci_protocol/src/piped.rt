@@ -1,7 +1,7 @@
 // Reads the body of a response, piece by piece, into a sink.
 ghost use Rattle.std.specs.Prelude.{◌≡◌, ◌≤◌, OnOk, OnErr, IsErrOf};
 ghost use Rattle.json_values.specs.Counts.{Increased};
-ghost use Rattle.oci_transport.specs.Link.{Steady, TakesPast};
+ghost use Rattle.oci_transport.specs.Link.{Steady, TakesPast, KeepsCount, AllButLastWithin};
 ghost use Rattle.oci_protocol.specs.StreamedBody.{StreamsBody, StreamsPrefix};
 
 use byte_streams::{Sink, SinkError, put_all};
@@ -49,6 +49,8 @@ pub fn stream_body<T: Transport, S: Sink>(
     ensures sink_count { (S.state sink.old).faults ≤ (S.state sink.new).faults }
     ensures poured { OnOk result (StreamsBody limit digesters.old digesters.new
         (T.state transport.old) (T.state transport.new) (S.state sink.old) (S.state sink.new)) }
+    ensures calm { OnOk result (KeepsCount (T.state transport.old) (T.state transport.new)) }
+    ensures pieces { AllButLastWithin limit (T.state transport.old) (T.state transport.new) }
     ensures prefix { StreamsPrefix (T.state transport.old) (S.state sink.old) (S.state sink.new) }
     ensures long { IsErrOf result StreamBodyError.BodyTooLong
         → TakesPast limit (T.state transport.old) (T.state transport.new) }

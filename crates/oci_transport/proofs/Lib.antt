@@ -1,3 +1,4 @@
+pub mod AddedFields
 pub mod Fields
 pub mod ScriptAnswers
 pub mod ScriptBreaks

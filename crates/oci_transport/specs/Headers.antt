@@ -1,13 +1,14 @@
 -- Header fields: names in lower case with their values (RFC 9110, section 5).
 use Rattle.std.specs.Prelude.{ℕ, ◌==◌, ◌≤◌, Bool, ◌&&◌, ◌||◌, not, nat_le, List, [], ◌∷◌, ◌++◌, if◌then◌else◌}
-use Rattle.std.specs.Prelude.{Option, Some, None, unwrap_or, length, slice_get, sum_by, All, codes}
+use Rattle.std.specs.Prelude.{Option, Some, None, unwrap_or, option_and_then, length, slice_get, sum_by, All, codes}
+use Rattle.std.specs.Prelude.{nat_lt}
 use Rattle.std.specs.List.{list_all}
 use Rattle.std.specs.FinMap as map
 use Rattle.std.specs.FinMap.{FinMap}
 use Rattle.std.specs.FinMap.Entries.{where_key}
 use Rattle.std.specs.Ordering.{eq_by_cmp}
 use Rattle.json_values.specs.Places.{by_bytes}
-use Rattle.http_header.specs.FieldName.{IsHeaderName}
+use Rattle.http_header.specs.FieldName.{IsHeaderName, is_field_name}
 use Rattle.http_header.specs.Token.{lowercase}
 
 -- the response header with the digest of the body (OCI distribution specification, "Pulling manifests")
@@ -53,6 +54,25 @@ is_value_byte b = (b == 9 || nat_le 32 b) && not (b == 127)
 
 abbrev pub is_header_value : List ℕ → Bool
 is_header_value value = list_all is_value_byte value
+
+-- whether one more value can be held
+abbrev pub has_room : Fields → Bool
+has_room m = nat_lt (held m) 1000
+
+-- with this value added last to those of its name; `None` if it is not a valid header value (RFC 9110, 5.5), or 1000
+-- values are held already
+abbrev pub with_header : Fields → List ℕ → List ℕ → Option Fields
+with_header m name value = if is_header_value value && has_room m then Some (added m name value) else None
+
+-- the same; also `None` if the name is not a field name (RFC 9110, 5.1)
+abbrev pub with_named : Fields → List ℕ → List ℕ → Option Fields
+with_named m name value = if is_field_name name then with_header m name value else None
+
+-- with these fields, one after another, each a name and a value
+abbrev pub with_headers : Fields → List (List ℕ × List ℕ) → Option Fields
+with_headers m [] = Some m
+with_headers m (field ∷ fields) =
+    option_and_then (λ more. with_headers more fields) (with_named m field.0 field.1)
 
 -- a byte of a text: a tab, a space or visible ASCII
 abbrev pub is_text_byte : ℕ → Bool

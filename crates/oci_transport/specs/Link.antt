@@ -1,6 +1,8 @@
 -- What a contract sees of a transport, and what a step of it may change.
 use Rattle.json_values.specs.Counts.{Increased}
-use Rattle.std.specs.Prelude.{◌≡◌, ℕ, suc, ◌≤◌, ◌<◌, ◌+◌, Bool, false, List, [], ◌∷◌, ◌++◌, length, Option, Some, None}
+use Rattle.std.specs.Prelude.{◌≡◌, ℕ, suc, ◌≤◌, ◌<◌, ◌+◌, Bool, true, false, List, [], ◌∷◌, ◌++◌, length, Option, Some}
+use Rattle.std.specs.Prelude.{None}
+use Rattle.oci_transport.specs.Pieces.{joined}
 use Rattle.oci_transport.specs.declared.message.Request.{Request}
 use Rattle.oci_transport.specs.declared.message.Answer.{Answer}
 use Rattle.oci_transport.specs.declared.message.AnswerHead.{AnswerHead}
@@ -14,13 +16,16 @@ pub record Answering : Type 0 where
   pub fails : ℕ → Bool
   pub breaks : ℕ → Option ℕ
 
--- what a contract sees of a transport: its exchanges, if exposed, the rest of the last answer's
--- body, if exposed, its fault count, and how it answers, if known, which is of use only if it exposes
--- its exchanges: the index of an answer is one of the conversation
+-- what a contract sees of a transport: its exchanges, if exposed; the rest of the last answer's body,
+-- and the pieces of it that were returned, if exposed; its fault count, and whether that is exact: only
+-- failed calls increase it; and how it answers, if known, which is of use only if it exposes its
+-- exchanges: the index of an answer is one of the conversation
 pub record Link : Type 0 where
   pub told : Option (List Exchange)
   pub rest : Option (List ℕ)
+  pub pieces : Option (List (List ℕ))
   pub faults : ℕ
+  pub exact : Bool
   pub answers : Option Answering
 
 -- each exchange, starting at this index, has the answer that `a` gives
@@ -32,8 +37,14 @@ AnsweredBy a place (e ∷ c) = (e.answer ≡ a.answer place e.request) × Answer
 abbrev pub NeverFails : Answering → Type 0
 NeverFails a = (place : ℕ) → a.fails place ≡ false
 
--- how it answers is unchanged, and if nothing may fail it had no fault
+-- an exact fault count is unchanged: no call failed
+abbrev pub KeepsCount : Link → Link → Type 0
+KeepsCount old new = old.exact ≡ true → new.faults ≡ old.faults
+
+-- how it answers, and whether its fault count is exact, is unchanged, and if nothing may fail it had no
+-- fault
 pub record Steady (old new : Link) : Type 0 where
+  pub exact : new.exact ≡ old.exact
   pub steady : (a : Answering) → old.answers ≡ Some a → new.answers ≡ Some a
   pub quiet : (a : Answering) → old.answers ≡ Some a → NeverFails a → new.faults ≡ old.faults
 
@@ -64,6 +75,7 @@ pub record Answers (request : Request) (head : AnswerHead) (old new : Link) : Ty
   pub body : List ℕ
   pub added : Extends old new (exchange_of request (Some (answer_of head body)) old ∷ [])
   pub rest : LeavesRest body old new
+  pub calm : KeepsCount old new
 
 -- an exchange with this request and no answer
 abbrev pub AddsUnanswered : Request → Link → Link → Type 0
@@ -94,16 +106,22 @@ pub record BreaksOff (e : Exchange) (answer : Answer) (bytes : ℕ) (link : Link
 abbrev pub IsPast : List ℕ → ℕ → Link → Type 0
 IsPast body bytes link = (left : List ℕ) × (link.rest ≡ Some left) × (bytes + length left < length body)
 
--- the end of the last answer's body was read: if the body is truncated, its fault occurred, so that the
--- fault count increased since the request was sent
+-- the end of the last answer's body was read: if the body is truncated, its fault occurred before, so that
+-- the fault count increased since the request was sent, and the rest was no longer exposed
 abbrev pub EndsUnbroken : Link → Link → Type 0
 EndsUnbroken old new = (e : Exchange) (answer : Answer) (bytes : ℕ) → BreaksOff e answer bytes old
-    → Increased e.faults new.faults
+    → Increased e.faults new.faults × (old.rest ≡ None)
 
--- the same if bytes after the truncation are read
+-- if the last answer's body is truncated, no bytes after the truncation were read while the rest is
+-- exposed
 abbrev pub StaysUnbroken : Link → Link → Type 0
 StaysUnbroken old new = (e : Exchange) (answer : Answer) (bytes : ℕ) → BreaksOff e answer bytes old
-    → IsPast answer.body bytes new → Increased e.faults new.faults
+    → IsPast answer.body bytes new → ⊥
+
+-- these pieces, and this one, unless it is empty
+abbrev pub with_piece : List (List ℕ) → List ℕ → List (List ℕ)
+with_piece pieces [] = pieces
+with_piece pieces (b ∷ bytes) = pieces ++ (b ∷ bytes) ∷ []
 
 -- the piece is a prefix of the rest, and an empty one means that nothing was left, and ends
 -- the body
@@ -112,16 +130,34 @@ pub record Takes (piece : List ℕ) (old new : Link) : Type 0 where
   pub unbroken : StaysUnbroken old new
   pub front : (rest : List ℕ) → old.rest ≡ Some rest
       → (left : List ℕ) × (rest ≡ piece ++ left) × (new.rest ≡ Some left) × (piece ≡ [] → rest ≡ [])
+  pub returned : (before : List (List ℕ)) → old.pieces ≡ Some before
+      → new.pieces ≡ Some (with_piece before piece)
+  pub calm : KeepsCount old new
 
--- more than `limit` bytes were read, and if the body is truncated before them, its fault occurred
+-- more than `limit` bytes were read, none of them after a truncation
 pub record TakesPast (limit : ℕ) (old new : Link) : Type 0 where
   pub unbroken : StaysUnbroken old new
   pub past : (rest : List ℕ) → old.rest ≡ Some rest → IsPast rest limit new
+  pub calm : KeepsCount old new
 
--- these bytes were read so far, and nothing was sent
+-- these bytes were read so far, no call failed, and nothing was sent
 pub record HasTaken (bytes : List ℕ) (old new : Link) : Type 0 where
   pub told : new.told ≡ old.told
   pub count : old.faults ≤ new.faults
   pub stays : Steady old new
   pub front : (rest : List ℕ) → old.rest ≡ Some rest
       → (left : List ℕ) × (rest ≡ bytes ++ left) × (new.rest ≡ Some left)
+  pub returned : (before : List (List ℕ)) → old.pieces ≡ Some before
+      → (pieces : List (List ℕ)) × (bytes ≡ joined pieces) × (new.pieces ≡ Some (before ++ pieces))
+  pub calm : KeepsCount old new
+
+-- at most one piece was returned
+abbrev pub AtMostOnePiece : Link → Link → Type 0
+AtMostOnePiece old new = (before : List (List ℕ)) → old.pieces ≡ Some before
+    → (last : List (List ℕ)) × (new.pieces ≡ Some (before ++ last)) × (length last ≤ 1)
+
+-- of the pieces that were returned all but the last have at most `limit` bytes together
+abbrev pub AllButLastWithin : ℕ → Link → Link → Type 0
+AllButLastWithin limit old new = (before : List (List ℕ)) → old.pieces ≡ Some before
+    → (pieces last : List (List ℕ)) × (new.pieces ≡ Some (before ++ pieces ++ last))
+    × (length (joined pieces) ≤ limit) × (length last ≤ 1)

@@ -1,5 +1,6 @@
 -- The state of a script.
-use Rattle.std.specs.Prelude.{◌≡◌, ℕ, List, length, drop, slice_get, Option, Some, None, if◌then◌else◌}
+use Rattle.std.specs.Prelude.{◌≡◌, ℕ, true, List, [], ◌++◌, length, take, drop, slice_get, Option, Some}
+use Rattle.std.specs.Prelude.{None, if◌then◌else◌}
 use Rattle.oci_transport.specs.declared.script.Script.{Script}
 use Rattle.oci_transport.specs.declared.recorded.Recorded.{Recorded}
 use Rattle.oci_transport.specs.declared.message.Answer.{Answer}
@@ -41,11 +42,19 @@ pub record StopsAt (old new : Script) : Type 0 where
 abbrev pub left_of : Script → List ℕ
 left_of s = joined (drop s.given (last_pieces s.answers (length s.told)))
 
--- a script exposes all that it did
+-- the piece is a prefix of the rest of the last answer, and an empty one means that nothing was left
+pub record Continues (piece : List ℕ) (old new : Script) : Type 0 where
+  pub front : left_of old ≡ piece ++ left_of new
+  pub ends : piece ≡ [] → left_of old ≡ []
+
+-- a script exposes all that it did, the rest of an answer until its fault, and only failed calls increase its
+-- fault count
 abbrev pub state_of : Script → Link
 state_of s = record {
   told = Some s.told;
-  rest = Some (left_of s);
+  rest = if s.stopped then None else Some (left_of s);
+  pieces = Some (take s.given (last_pieces s.answers (length s.told)));
   faults = s.faults;
+  exact = true;
   answers = Some (answering s.answers);
 }

@@ -1,6 +1,7 @@
 ghost use Rattle.std.specs.Prelude.{◌≡◌, ◌≤◌, length, IfOk, OnOk, IsErrOf};
 ghost use Rattle.json_values.specs.Counts.{Increased};
 ghost use Rattle.oci_transport.specs.Link.{Steady, EndsRest, EndsUnbroken, TakesPast};
+ghost use Rattle.oci_transport.specs.Link.{KeepsCount, AllButLastWithin};
 ghost use Rattle.oci_transport.specs.declared.body.BodyError.TheVariants.{WantOfMemory as out_of_memory};
 
 use crate::transport::{LinkError, Transport};
@@ -50,6 +51,8 @@ pub fn read_body<T: Transport>(
         (rest : _) → (T.state transport.old).rest ≡ Some rest → body ≡ rest) }
     ensures ended { OnOk result (EndsRest (T.state transport.old) (T.state transport.new)) }
     ensures unbroken { OnOk result (EndsUnbroken (T.state transport.old) (T.state transport.new)) }
+    ensures calm { OnOk result (KeepsCount (T.state transport.old) (T.state transport.new)) }
+    ensures pieces { AllButLastWithin limit (T.state transport.old) (T.state transport.new) }
     ensures long { IsErrOf result BodyError.BodyTooLong
         → TakesPast limit (T.state transport.old) (T.state transport.new) }
     ensures fault { IsErrOf result BodyError.TransportFault

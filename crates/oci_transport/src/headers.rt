@@ -1,15 +1,17 @@
 // Header fields of requests and answers.
 ghost use Rattle.std.specs.Prelude.{◌≡◌, ◌<◌, ◌≤◌, ◌↔◌, ◌-◌, ◌^◌, ◌∷◌, ◌++◌, [], List, true, false};
 ghost use Rattle.std.specs.Prelude.{IfOk, OnOk, OnErr, IsErrOf, All, slice_get, sum_by, length, min, nat_le, unwrap_or};
+ghost use Rattle.std.specs.Prelude.{IsTrue, map as each};
 ghost use Rattle.std.specs.Option.{option_copied};
 ghost use Rattle.std.specs.Ordering.{eq_by_cmp};
 ghost use Rattle.std.specs.FinMap as map;
 ghost use Rattle.std.specs.FinMap.Entries.{find};
-ghost use Rattle.http_header.specs.FieldName.{IsFieldName, IsHeaderName};
+ghost use Rattle.http_header.specs.FieldName.{IsFieldName, IsHeaderName, is_header_name};
 ghost use Rattle.http_header.specs.Token.{lowercase};
 ghost use Rattle.json_values.specs.Places.{by_bytes};
 ghost use Rattle.oci_transport.specs.Headers.{AreFields, values_of, first_of, with_value, added, without, held};
 ghost use Rattle.oci_transport.specs.Headers.{is_header_value, is_text, header_text, kept_fields};
+ghost use Rattle.oci_transport.specs.Headers.{with_header, with_named, with_headers};
 ghost use Rattle.oci_transport.specs.declared.headers.HeaderError.TheVariants.{WantOfMemory as out_of_memory};
 
 use http_header::{HeaderName, HeaderNameError};
@@ -171,6 +173,80 @@ impl Copied for Headers {
             alloc,
             fields: self.fields.copy(alloc)?,
         })
+    }
+}
+
+/// Returns the headers with one more field, or `None` if the value is not a valid header value (RFC 9110, section 5.5)
+/// or there are 1000 values already. The name is a field name in lower case.
+pub fn with_header(
+    headers: Headers,
+    name: &str,
+    value: &[u8],
+) -> Result<Option<Headers>, AllocError>
+    requires { IsTrue (is_header_name name.now) }
+    ensures { IfOk result (λ more. more ≡ with_header headers name.now value.now) }
+{
+    let more = with_named(headers, name, value)?;
+    Ok(more)
+}
+
+/// What can be the value of a field in a list of fields.
+pub trait FieldValue {
+    ghost use Rattle.std.specs.Prelude.{ℕ, List};
+
+    /// The value's bytes.
+    ghost bytes: { Self → List ℕ };
+
+    /// Returns the bytes.
+    fn bytes(&self) -> &[u8]
+        ensures { result.now ≡ bytes self.now };
+}
+
+impl FieldValue for Text {
+    ghost bytes = { λ text. text };
+
+    fn bytes(&self) -> &[u8] {
+        self.as_str().as_bytes()
+    }
+}
+
+impl FieldValue for Blob {
+    ghost bytes = { λ bytes. bytes };
+
+    fn bytes(&self) -> &[u8] {
+        self.as_slice()
+    }
+}
+
+/// Returns headers of these fields, added one after another; or `None` if a name is not a field name (RFC 9110, section
+/// 5.1), a value is not a valid header value (section 5.5), or there are more than 1000.
+pub fn headers_from<V: FieldValue>(
+    alloc: Global,
+    fields: &[(Text, V)],
+) -> Result<Option<Headers>, AllocError>
+    ensures { IfOk result (λ headers.
+        headers ≡ with_headers map.empty (each (λ field. (field.0, V.bytes field.1)) fields.now)) }
+{
+    let mut headers = Headers::new(alloc);
+    for (name, value) in fields {
+        match with_named(headers, name.as_str(), value.bytes())? {
+            Some(more) => headers = more,
+            None => return Ok(None),
+        }
+    }
+    Ok(Some(headers))
+}
+
+// Returns the headers with one more field, if it is one.
+fn with_named(mut headers: Headers, name: &str, value: &[u8]) -> Result<Option<Headers>, AllocError>
+    ensures { IfOk result (λ more. more ≡ with_named headers name.now value.now) }
+{
+    match headers.add(name, value) {
+        Ok(()) => Ok(Some(headers)),
+        Err(HeaderError::WantOfMemory) => Err(AllocError),
+        Err(HeaderError::BadName) => Ok(None),
+        Err(HeaderError::BadValue) => Ok(None),
+        Err(HeaderError::TooMany) => Ok(None),
     }
 }
 

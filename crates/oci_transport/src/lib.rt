@@ -11,7 +11,9 @@ mod transport;
 mod urls;
 
 pub use body::{BodyError, read_body};
-pub use headers::{DIGEST_HEADER, HeaderError, Headers, header_text};
+pub use headers::{
+    DIGEST_HEADER, FieldValue, HeaderError, Headers, header_text, headers_from, with_header,
+};
 pub use message::{Answer, AnswerHead, Conversation, Exchange, Method, Request};
 pub use recorded::Recorded;
 pub use redirects::redirected;

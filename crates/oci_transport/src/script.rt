@@ -24,12 +24,14 @@ pub struct Script {
 }
 
 impl Script {
+    ghost use Rattle.std.specs.Prelude.{true};
     ghost use Rattle.oci_transport.specs.Script.{state_of, answers_of, stop_of};
 
     /// Creates a script of these answers.
     pub fn new(alloc: Global, answers: List<Recorded>) -> Script
         ensures told { (state_of result).told ≡ Some [] }
         ensures faults { (state_of result).faults ≡ 0 }
+        ensures exact { (state_of result).exact ≡ true }
         ensures table { (state_of result).answers ≡ Some (answering answers) }
         ensures answers { answers_of result ≡ answers }
     {
@@ -82,7 +84,7 @@ impl Transport for Script {
     ghost use Rattle.json_values.specs.Counts.{Increased, incremented};
     ghost use Rattle.oci_transport.specs.Link.{Answers, AddsUnanswered, AddsAtMost, LeavesRest, Takes, Steady};
     ghost use Rattle.oci_transport.specs.Script.{state_of, answers_of, given_of, stop_of};
-    ghost use Rattle.oci_transport.specs.Script.{next_answer, next_stop, StopsAt};
+    ghost use Rattle.oci_transport.specs.Script.{next_answer, next_stop, StopsAt, Continues};
 
     ghost state = { state_of };
 
@@ -144,6 +146,8 @@ impl Transport for Script {
         ensures steady { Steady (state_of self.old) (state_of self.new) }
         ensures count { (state_of self.old).faults ≤ (state_of self.new).faults }
         ensures taken { IfOk result (λ piece. Takes piece (state_of self.old) (state_of self.new)) }
+        ensures none_returned { OnErr result ((state_of self.new).pieces ≡ (state_of self.old).pieces) }
+        ensures continues { IfOk result (λ piece. Continues piece self.old self.new) }
         ensures counts_one { IsErrOf result LinkError.Failed
             → (state_of self.new).faults ≡ incremented (state_of self.old).faults }
         ensures fault { IsErrOf result LinkError.Failed

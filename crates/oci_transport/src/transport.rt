@@ -1,5 +1,5 @@
 // Carries requests to a registry, and returns its answers.
-ghost use Rattle.std.specs.Prelude.{◌≡◌, ◌≤◌, [], IfOk, IsErrOf};
+ghost use Rattle.std.specs.Prelude.{◌≡◌, ◌≤◌, [], IfOk, OnErr, IsErrOf};
 ghost use Rattle.json_values.specs.Counts.{Increased};
 ghost use Rattle.oci_transport.specs.Link.{Link, Steady, Answers, AddsUnanswered, AddsAtMost, LeavesRest, Takes};
 ghost use Rattle.oci_transport.specs.declared.transport.LinkError.TheVariants.{WantOfMemory as out_of_memory};
@@ -44,8 +44,9 @@ impl<T: Drop> From<AllocFailed<T>> for LinkError {
 
 /// Carries requests, one after another, and the bodies of their answers piece by piece.
 pub trait Transport {
-    /// The exchanges so far, the rest of the last answer's body, the fault count, and how the transport answers, which
-    /// means nothing unless it exposes its exchanges.
+    /// The exchanges so far, the rest of the last answer's body and the pieces of it that were returned, the fault
+    /// count, whether only failed calls increase it, and how the transport answers, which means nothing unless it
+    /// exposes its exchanges.
     ghost state: { Self → Link };
 
     /// Sends a request and returns the status and headers of the answer; its body is still unread. Returns `Failed` if
@@ -69,6 +70,7 @@ pub trait Transport {
         ensures steady { Steady (state self.old) (state self.new) }
         ensures count { (state self.old).faults ≤ (state self.new).faults }
         ensures taken { IfOk result (λ piece. Takes piece (state self.old) (state self.new)) }
+        ensures none_returned { OnErr result ((state self.new).pieces ≡ (state self.old).pieces) }
         ensures fault { IsErrOf result LinkError.Failed
             → Increased (state self.old).faults (state self.new).faults };
 

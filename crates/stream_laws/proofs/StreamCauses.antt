@@ -1,10 +1,10 @@
 -- Why a stream of a blob was not opened.
 use Rattle.std.proofs.Common.{◌≡◌, ◌≢◌, inl, inr, ℕ, ◌+◌, ◌-◌, ◌^◌, Bool, true, false, List, [], ◌∷◌, ◌++◌, Option, Some, None, Result, Ok, Err, IfErr, codes, refl, sym, ap, subst, ◌∙◌, append-nil}
-use Rattle.std.specs.Prelude.{◌&&◌, ◌||◌, decimal, nat_lt, if◌then◌else◌}
+use Rattle.std.specs.Prelude.{◌&&◌, ◌||◌, decimal, nat_lt, if◌then◌else◌, ok_or}
 use Rattle.std.specs.List.{Contains}
 use Rattle.std.proofs.lemmas.Bool.{ltb-false}
 use Rattle.json_values.specs.Counts.{Increased}
-use Rattle.oci_transport.specs.Headers.{Fields, added, held, is_header_value}
+use Rattle.oci_transport.specs.Headers.{Fields, added, is_header_value, has_room}
 use Rattle.oci_transport.specs.Link.{Link, answer_of}
 use Rattle.oci_transport.specs.Urls.{request_url}
 use Rattle.oci_transport.specs.declared.message.Answer.{Answer}
@@ -24,7 +24,8 @@ use Rattle.engine_requests.specs.Addresses.{blob_text, url_read}
 use Rattle.engine_answers.specs.Answers.{header_digest, is_error, is_success, or_digest_error, refused_answer}
 use Rattle.engine_answers.specs.Blobs.{digest_expected}
 use Rattle.engine_terms.specs.Contexts.{Context}
-use Rattle.engine_terms.specs.Error.{is_memory, ◌>>=◌ as ◌into◌}
+use Rattle.json_values.specs.Refusals.{◌>>=◌ as ◌into◌}
+use Rattle.engine_terms.specs.Error.{is_memory}
 use Rattle.engine_requests.specs.Requests.{manifest_types, with_header}
 use Rattle.engine_requests.specs.Sources.{Layer, place_of, places_of, asked_at}
 use Rattle.engine_answers.specs.declared.blobs.Expected.{Expected}
@@ -155,8 +156,8 @@ not_passed range head is = not_streamed range head.status (neither (is_error hea
 
 -- a header is refused for an invalid value
 header_early : (T : Act → Type 0) (headers : Fields) (name value : List ℕ) → Early T (with_header headers name value)
-header_early T headers name value = by_test (is_header_value value && nat_lt (held headers) 1000) where
-  by_test : (b : Bool) → Early T (if b then Ok (added headers name value) else Err (refusal.GenericError HeaderText))
+header_early T headers name value = by_test (is_header_value value && has_room headers) where
+  by_test : (b : Bool) → Early T (ok_or (if b then Some (added headers name value) else None) (refusal.GenericError HeaderText))
   by_test true = tt
   by_test false = tt
 

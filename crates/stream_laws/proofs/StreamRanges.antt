@@ -16,7 +16,7 @@ use Rattle.oci_transport.specs.declared.message.Request.{Request}
 use Rattle.oci_transport.specs.declared.message.Method.{Method}
 use Rattle.oci_auth.specs.Auth.{authorization_of}
 use Rattle.oci_auth.specs.declared.token_type.RegistryTokenType.{RegistryTokenType}
-use Rattle.engine_terms.specs.Error.{◌>>=◌ as ◌into◌}
+use Rattle.json_values.specs.Refusals.{◌>>=◌ as ◌into◌}
 use Rattle.engine_requests.specs.Requests.{with_header, with_token, request_of}
 use Rattle.engine_terms.specs.declared.error.GenericCause.TheVariants.{RangeOverflow}
 use Rattle.engine_terms.specs.declared.error.OciDistributionError.{OciDistributionError}
@@ -24,10 +24,10 @@ use Rattle.engine_terms.specs.declared.error.OciDistributionError.TheVariants as
 use Rattle.engine_terms.specs.declared.settings.Settings.{Settings}
 use Rattle.engine_laws.proofs.PreparedRequests.{with_ok, accept_none, made_of}
 use Rattle.engine_laws.proofs.ShownTokens.{agent_entries, refused_value}
-use Rattle.engine_streams.specs.Head.{is_digit}
+use Rattle.json_values.specs.Decimals.{is_digit}
 use Rattle.engine_streams.specs.Range.{onward_text, text_to, text_by, range_text, onward}
 use Rattle.engine_streams.specs.declared.range.ByteRange.{ByteRange}
-use Rattle.engine_streams.proofs.Decimals.{split, joined, numeral}
+use Rattle.json_values.proofs.Decimals.{split, joined, numeral}
 
 -- ---- it is a valid header value
 

@@ -13,7 +13,8 @@ use Rattle.oci_protocol.specs.Runs.{Meets}
 use Rattle.oci_protocol.specs.Ends.{Ends}
 use Rattle.engine_requests.specs.Addresses.{blob_text, url_read}
 use Rattle.engine_terms.specs.Contexts.{Context}
-use Rattle.engine_terms.specs.Error.{is_memory, ◌>>=◌ as ◌into◌}
+use Rattle.json_values.specs.Refusals.{◌>>=◌ as ◌into◌}
+use Rattle.engine_terms.specs.Error.{is_memory}
 use Rattle.engine_requests.specs.Requests.{manifest_types}
 use Rattle.engine_requests.specs.Sources.{Layer, places_of}
 use Rattle.engine_terms.specs.declared.error.GenericCause.TheVariants.{RangeOverflow}

@@ -22,7 +22,7 @@ use Rattle.oci_protocol.proofs.Safety.{Safe-bind}
 use Rattle.engine_requests.specs.Addresses.{blob_text}
 use Rattle.engine_answers.specs.Answers.{refused_answer, header_digest, is_error}
 use Rattle.engine_terms.specs.Contexts.{Context}
-use Rattle.engine_terms.specs.Error.{◌>>=◌ as ◌into◌}
+use Rattle.json_values.specs.Refusals.{◌>>=◌ as ◌into◌}
 use Rattle.engine_requests.specs.Requests.{with_header, manifest_types, request_of}
 use Rattle.engine_requests.specs.Sources.{Layer, places_of, asked_at}
 use Rattle.engine_terms.specs.declared.error.GenericCause.TheVariants.{RangeOverflow}

@@ -9,7 +9,7 @@ pub returns-in-Err-WantOfMemory : goal.returns-in-Err-WantOfMemory
 returns-in-Err-WantOfMemory g c = λ k. spills_none _ (blob_cut _ _ _ _ _ _ k (c.in-Err-WantOfMemory.ensures.cut (rw c.in-Err-WantOfMemory.field-0-is refl))) (memory_is_none _)
 
 pub returns-in_err-put_reached : goal.returns-in_err-put_reached
-returns-in_err-put_reached g c = λ k. spills_on (c.in_err-put_reached.ensures _ _ k _ c.in-Ok.ensures.reached (inl refl)) c.from_residual.ensures.1
+returns-in_err-put_reached g c = λ k. spills_on (c.in_err-put_reached.ensures.run _ _ k _ c.in-Ok.ensures.reached (inl refl)) c.from_residual.ensures.1
 
 pub returns : goal.returns
-returns g c = λ k. c.in_ok-put_reached.ensures _ _ k _ c.in-Ok.ensures.reached (inl refl)
+returns g c = λ k. c.in_ok-put_reached.ensures.run _ _ k _ c.in-Ok.ensures.reached (inl refl)

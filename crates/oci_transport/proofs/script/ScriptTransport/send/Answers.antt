@@ -12,11 +12,11 @@ pub returns-in_ok-push-in-Some-clause-answered : goal.returns-in_ok-push-in-Some
 returns-in_ok-push-in-Some-clause-answered c =
     let items = c.args.self.now.answers in
     let is : recorded_answer (slice_get items (length c.args.self.now.told)) ≡ Some c.in-Some.answer = sym (c.in_ok-answer.ensures ∙ (λ i. recorded_answer (slice_get (c.as_slice.ensures i) (length (c.as_slice-place.ensures i))))) ∙ c.in-Some.is in
-    answered_next items _ _ c.args.self.now.told c.args.request.now _ c.in-Some.answer refl refl refl (ap Some c.in_ok-push-in-Some.ensures.ok ∙ ap (λ (r : Request). Some (c.args.self.now.told ++ record { request = r; answer = Some c.in-Some.answer; faults = c.args.self.now.faults } ∷ [])) c.in_ok-request.ensures) is refl c.in_ok-headers-in-Some.ensures (ap Some (ap (λ told. joined (drop 0 (last_pieces items (length told)))) c.in_ok-push-in-Some.ensures.ok ∙ rest_next items c.args.self.now.told _ c.in-Some.answer is))
+    answered_next items _ _ c.args.self.now.told c.args.request.now _ c.in-Some.answer refl refl refl refl refl (ap Some c.in_ok-push-in-Some.ensures.ok ∙ ap (λ (r : Request). Some (c.args.self.now.told ++ record { request = r; answer = Some c.in-Some.answer; faults = c.args.self.now.faults } ∷ [])) c.in_ok-request.ensures) is refl c.in_ok-headers-in-Some.ensures (ap Some (ap (λ told. joined (drop 0 (last_pieces items (length told)))) c.in_ok-push-in-Some.ensures.ok ∙ rest_next items c.args.self.now.told _ c.in-Some.answer is))
 
 pub returns-in_ok-push-in-None-clause-unanswered :
     goal.returns-in_ok-push-in-None-clause-unanswered
-returns-in_ok-push-in-None-clause-unanswered c _ = told_next c.args.self.now.answers _ _ c.args.self.now.told (record { request = c.args.request.now; answer = None; faults = c.args.self.now.faults }) refl refl refl (ap Some c.in_ok-push-in-None.ensures.ok ∙ ap (λ (r : Request). Some (c.args.self.now.told ++ record { request = r; answer = None; faults = c.args.self.now.faults } ∷ [])) c.in_ok-request.ensures) (sym c.in-None.is ∙ c.in_ok-answer.ensures ∙ (λ i. recorded_answer (slice_get (c.as_slice.ensures i) (length (c.as_slice-place.ensures i)))))
+returns-in_ok-push-in-None-clause-unanswered c _ = told_next c.args.self.now.answers _ _ c.args.self.now.told (record { request = c.args.request.now; answer = None; faults = c.args.self.now.faults }) refl refl refl refl (ap Some c.in_ok-push-in-None.ensures.ok ∙ ap (λ (r : Request). Some (c.args.self.now.told ++ record { request = r; answer = None; faults = c.args.self.now.faults } ∷ [])) c.in_ok-request.ensures) (sym c.in-None.is ∙ c.in_ok-answer.ensures ∙ (λ i. recorded_answer (slice_get (c.as_slice.ensures i) (length (c.as_slice-place.ensures i)))))
 
 pub returns-in_ok-push-in-None-clause-nothing :
     goal.returns-in_ok-push-in-None-clause-nothing
