@@ -29,7 +29,7 @@ use Rattle.engine_requests.specs.declared.sources.Place.{Place}
 use Rattle.engine_requests.specs.Sources.{Layer, places_of}
 use Rattle.engine_terms.specs.declared.error.OciDistributionError.{OciDistributionError}
 use Rattle.engine_terms.specs.declared.error.OciDistributionError.TheVariants as refusal
-use Rattle.engine_terms.specs.Error.{◌>>◌ as ◌before◌}
+use Rattle.json_values.specs.Refusals.{◌>>◌ as ◌before◌}
 use Rattle.engine_requests.specs.Addresses.{blob_text, url_read}
 use Rattle.engine_requests.specs.Requests.{manifest_types}
 use Rattle.engine_answers.specs.Answers.{is_success}

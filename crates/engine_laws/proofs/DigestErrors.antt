@@ -5,9 +5,10 @@ use Rattle.std.proofs.lemmas.Slice.Eq.{bytes_eq-Decides}
 use Rattle.oci_transport.specs.Headers.{digest_header, first_of}
 use Rattle.oci_transport.specs.declared.message.Answer.{Answer}
 use Rattle.oci_digests.specs.Names.{digest_text}
-use Rattle.oci_digests.specs.Checks.{parts_of, algorithm_of, named_by, named_algorithm}
+use Rattle.oci_digests.specs.Checks.{parts_of, named_by, named_algorithm}
+use Rattle.oci_names.specs.Algorithms.{algorithm_of}
 use Rattle.oci_digests.specs.Checks.{is_header_text, header_digest as digest_in, and_then, checked_by, checked, both_checked, both_validated, validated}
-use Rattle.oci_digests.specs.declared.digester.Algorithm.{Algorithm}
+use Rattle.oci_names.specs.declared.algorithm.Algorithm.{Algorithm}
 use Rattle.oci_digests.specs.declared.error.DigestError.{DigestError}
 use Rattle.oci_digests.specs.declared.error.DigestError.TheVariants.{InvalidHeader, MissingAlgorithm, UnsupportedAlgorithm, VerificationError, WantOfMemory}
 use Rattle.engine_terms.specs.declared.error.OciDistributionError.{OciDistributionError}

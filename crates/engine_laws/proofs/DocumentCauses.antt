@@ -32,7 +32,7 @@ use Rattle.engine_terms.specs.declared.error.GenericCause.TheVariants.{HeaderTex
 use Rattle.engine_terms.specs.declared.error.SpecViolation.TheVariants.{Status}
 use Rattle.engine_terms.specs.declared.error.OciDistributionError.{OciDistributionError}
 use Rattle.engine_terms.specs.declared.error.OciDistributionError.TheVariants as refusal
-use Rattle.engine_terms.specs.Error.{◌>>=◌ as ◌into◌}
+use Rattle.json_values.specs.Refusals.{◌>>=◌ as ◌into◌}
 use Rattle.engine_requests.specs.Addresses.{manifest_text, url_read}
 use Rattle.engine_answers.specs.Answers.{is_success, is_client_error, envelope_in, by_envelope, refused_answer, accepted, header_digest, body_digest, answer_digest, document_in}
 use Rattle.engine_rows.specs.Rows.{Row, store, whole, whole_reply, prepared}

@@ -1,9 +1,9 @@
 -- Why a call was refused before its request was made.
 use Rattle.std.proofs.Common.{◌≡◌, ℕ, Bool, true, false, List, Option, Some, None, Result, Ok, Err, codes, refl}
-use Rattle.std.specs.Prelude.{◌&&◌, nat_lt, if◌then◌else◌}
+use Rattle.std.specs.Prelude.{◌&&◌, if◌then◌else◌, ok_or}
 use Rattle.std.specs.FinMap as map
 use Rattle.url.specs.Parts.{Parts, serialize}
-use Rattle.oci_transport.specs.Headers.{Fields, added, held, is_header_value}
+use Rattle.oci_transport.specs.Headers.{Fields, added, is_header_value, has_room}
 use Rattle.oci_transport.specs.Urls.{request_url}
 use Rattle.oci_transport.specs.declared.message.Answer.{Answer}
 use Rattle.oci_transport.specs.declared.message.Exchange.{Exchange}
@@ -26,7 +26,7 @@ use Rattle.engine_terms.specs.declared.settings.Settings.{Settings}
 use Rattle.engine_terms.specs.declared.error.GenericCause.TheVariants.{HeaderText}
 use Rattle.engine_terms.specs.declared.error.OciDistributionError.{OciDistributionError}
 use Rattle.engine_terms.specs.declared.error.OciDistributionError.TheVariants as refusal
-use Rattle.engine_terms.specs.Error.{◌>>=◌ as ◌into◌}
+use Rattle.json_values.specs.Refusals.{◌>>=◌ as ◌into◌}
 use Rattle.engine_requests.specs.Addresses.{url_or, url_read, registry_text}
 use Rattle.engine_requests.specs.Requests.{with_header, with_accept, with_token, headers_of, request_of, bare_request}
 use Rattle.engine_rows.specs.Rows.{Row, passed_over, taken, token_step, token_asked, kept_or_asked, token_by, token_for, goes_to, token_where, authorized, prepared, store}
@@ -67,8 +67,8 @@ read_early T s types text here = url_early T s types text (request_url text) her
 -- ---- headers
 
 header_early : (T : Act → Type 0) (s : Settings) (types : List ℕ) (headers : Fields) (name value : List ℕ) → Early T (with_header headers name value)
-header_early T s types headers name value = by_test (is_header_value value && nat_lt (held headers) 1000) where
-  by_test : (b : Bool) → Early T (if b then Ok (added headers name value) else Err (refusal.GenericError HeaderText))
+header_early T s types headers name value = by_test (is_header_value value && has_room headers) where
+  by_test : (b : Bool) → Early T (ok_or (if b then Some (added headers name value) else None) (refusal.GenericError HeaderText))
   by_test true = tt
   by_test false = tt
 

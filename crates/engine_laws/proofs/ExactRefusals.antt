@@ -1,10 +1,10 @@
 -- Which calls are refused before a request is made.
 use Rattle.std.proofs.Common.{◌≡◌, inl, inr, ℕ, Bool, true, false, List, Option, Some, None, Result, Ok, Err, codes, refl, sym, ap, subst, ◌∙◌}
-use Rattle.std.specs.Prelude.{MatchBool, ◌&&◌, nat_lt, if◌then◌else◌}
+use Rattle.std.specs.Prelude.{MatchBool, ◌&&◌, if◌then◌else◌, ok_or}
 use Rattle.std.specs.FinMap as map
 use Rattle.url.specs.Parts.{Parts}
 use Rattle.byte_streams.specs.SinkState.{SinkState}
-use Rattle.oci_transport.specs.Headers.{Fields, added, held, is_header_value}
+use Rattle.oci_transport.specs.Headers.{Fields, added, is_header_value, has_room}
 use Rattle.oci_transport.specs.Link.{Link}
 use Rattle.oci_transport.specs.Urls.{request_url}
 use Rattle.oci_transport.specs.declared.message.Method.{Method}
@@ -25,7 +25,8 @@ use Rattle.engine_terms.specs.declared.settings.Settings.{Settings}
 use Rattle.engine_terms.specs.declared.error.GenericCause.TheVariants.{HeaderText}
 use Rattle.engine_terms.specs.declared.error.OciDistributionError.{OciDistributionError}
 use Rattle.engine_terms.specs.declared.error.OciDistributionError.TheVariants as refusal
-use Rattle.engine_terms.specs.Error.{is_memory, ◌>>=◌ as ◌into◌}
+use Rattle.json_values.specs.Refusals.{◌>>=◌ as ◌into◌}
+use Rattle.engine_terms.specs.Error.{is_memory}
 use Rattle.engine_requests.specs.Addresses.{manifest_text, blob_text, url_or, url_read}
 use Rattle.engine_requests.specs.Requests.{with_header, with_accept, with_token, headers_of, request_of, bare_request, manifest_types}
 use Rattle.engine_rows.specs.Rows.{Row, store, authorized, prepared, named_after}
@@ -101,7 +102,7 @@ blob_url to s image layer none = no_url (blob_text s.settings image layer.digest
 -- ---- an invalid header value
 
 not_made : (headers : Fields) (name value : List ℕ) (r : Result Fields OciDistributionError) → is_header_value value ≡ false → with_header headers name value ≡ r → r ≡ Err (refusal.GenericError HeaderText)
-not_made headers name value r bad is = sym is ∙ ap (λ b. if b && nat_lt (held headers) 1000 then Ok (added headers name value) else Err (refusal.GenericError HeaderText)) bad
+not_made headers name value r bad is = sym is ∙ ap (λ b. ok_or (if b && has_room headers then Some (added headers name value) else None) (refusal.GenericError HeaderText)) bad
 
 -- a request with such values cannot be built
 unmade : {A : Type 0} (r : Result Fields OciDistributionError) → ◌≡◌ {A = Result Fields OciDistributionError} r (Err (refusal.GenericError HeaderText)) → (f : Fields → Result A OciDistributionError) → (r into f) ≡ Err (refusal.GenericError HeaderText)
@@ -117,8 +118,8 @@ bad_agent types (Ok headers) is = absurd (cc is)
 bad_agent types (Err e) is = is
 
 header_kind : (headers : Fields) (name value : List ℕ) (e : OciDistributionError) → with_header headers name value ≡ Err e → e ≡ refusal.GenericError HeaderText
-header_kind headers name value e = by_test (is_header_value value && nat_lt (held headers) 1000) where
-  by_test : (b : Bool) → (if b then Ok (added headers name value) else Err (refusal.GenericError HeaderText)) ≡ Err e → e ≡ refusal.GenericError HeaderText
+header_kind headers name value e = by_test (is_header_value value && has_room headers) where
+  by_test : (b : Bool) → (ok_or (if b then Some (added headers name value) else None) (refusal.GenericError HeaderText)) ≡ Err e → e ≡ refusal.GenericError HeaderText
   by_test true is = absurd (cc is)
   by_test false is = cc is
 

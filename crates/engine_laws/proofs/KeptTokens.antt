@@ -1,7 +1,6 @@
 -- The client state during a call: credentials and tokens that the call may send.
-use Rattle.std.proofs.Common.{◌≡◌, inl, inr, ℕ, Bool, true, false, cond, List, [], ◌∷◌, ◌++◌, Option, Some, None, true≢false, refl, sym, ap, subst, ◌∙◌, append_assoc}
-use Rattle.std.specs.Prelude.{is_some, nat_le, if◌then◌else◌, option_and_then}
-use Rattle.std.specs.Option.{option_map_or}
+use Rattle.std.proofs.Common.{◌≡◌, ◌⊎◌, inl, inr, ℕ, Bool, true, false, cond, List, [], ◌∷◌, ◌++◌, Option, Some, None, true≢false, refl, sym, ap, subst, ◌∙◌, append_assoc}
+use Rattle.std.specs.Prelude.{is_some, if◌then◌else◌}
 use Rattle.std.specs.FinMap as map
 use Rattle.std.specs.FinMap.{FinMap, get-insert}
 use Rattle.std.specs.Ordering.{eq_by_cmp}
@@ -9,15 +8,13 @@ use Rattle.std.specs.Cmp.Lexicographic.{nat_list_cmp_total, texts_ties, same_tex
 use Rattle.json_values.specs.Places.{by_bytes}
 use Rattle.oci_transport.specs.declared.message.Exchange.{Exchange}
 use Rattle.oci_names.specs.Reference.{resolved_registry}
-use Rattle.oci_auth.specs.Cache.{key_of, kept_until, kept_token, given_at, token_at}
-use Rattle.oci_auth.specs.Kept.{Key, key_in, is_under, inserted}
+use Rattle.oci_auth.specs.Cache.{key_of, token_at}
+use Rattle.oci_auth.specs.Kept.{Key}
 use Rattle.oci_auth.specs.AuthState.{stored}
 use Rattle.oci_auth.specs.declared.auth.RegistryAuth.{RegistryAuth}
-use Rattle.oci_auth.specs.declared.cache.TokenCache.{TokenCache}
-use Rattle.oci_auth.specs.declared.kept.KeptToken.{KeptToken}
 use Rattle.oci_auth.specs.declared.auth_state.AuthState.{AuthState}
 use Rattle.oci_auth.specs.declared.token_type.RegistryTokenType.{RegistryTokenType}
-use Rattle.oci_auth.proofs.Places.{is_kept, same_key, under_itself}
+use Rattle.oci_auth.proofs.Places.{token_after}
 use Rattle.engine_rows.specs.Rows.{with_kept}
 use Rattle.engine_rows.specs.Confined.{KeptOrAdded, KeptWell, StoredOrHanded, StoredWell}
 use Rattle.engine_rows.specs.Held.{Entry, IsAuth, GivenIn, IsHeld}
@@ -77,38 +74,21 @@ keeps_stored x l c a handed k = stored_by x l c (resolved_registry x.image) a (i
 
 -- ---- a token is stored
 
-by_moment : (b : Bool) (token other : RegistryTokenType) → (if b then Some token else None) ≡ Some other → token ≡ other
-by_moment true token other is = cc is
-by_moment false token other is = absurd (cc is)
-
--- the token that is returned after one is stored under this key
-given_kept : (cache : TokenCache) (key : Key) (token other : RegistryTokenType) (until moment : ℕ) → token_at (record cache { tokens = inserted cache.tokens (kept_token key token until) }) key moment ≡ Some other → token ≡ other
-given_kept cache key token other until moment is =
-    by_moment (nat_le moment until) token other (sym (ap (λ (o : Option KeptToken). option_and_then (given_at moment) o) (is_kept cache.tokens (kept_token key token until)).here) ∙ is)
-
-cache_by : (x : Entry) (cache : TokenCache) (c : List Exchange) (token other : RegistryTokenType) (until : Option ℕ) → IsHeld x c token → (token_at cache (key_of x.image x.operation) x.moment ≡ Some other → IsHeld x c other)
-    → token_at (option_map_or (λ u. record cache { tokens = inserted cache.tokens (kept_token (key_of x.image x.operation) token u) }) until cache) (key_of x.image x.operation) x.moment ≡ Some other → IsHeld x c other
-cache_by x cache c token other None held before is = before is
-cache_by x cache c token other (Some until) held before is = subst (IsHeld x c) (given_kept cache (key_of x.image x.operation) token other until x.moment is) held
-
--- the token that is returned under some key after one is stored
-other_key : (key : Key) (t : KeptToken) → is_under key t ≡ false → key ≡ key_in t → ⊥
-other_key key t apart same = true≢false (sym (under_itself t) ∙ ap (λ (k : Key). is_under k t) (sym same) ∙ apart)
-
-added_by : (x : Entry) (cache : TokenCache) (c : List Exchange) (token other : RegistryTokenType) (until moment : ℕ) (key : Key) (b : Bool) → is_under key (kept_token (key_of x.image x.operation) token until) ≡ b → IsHeld x c token → (token_at cache key moment ≡ Some other → KeptOrAdded x c key moment other)
-    → token_at (record cache { tokens = inserted cache.tokens (kept_token (key_of x.image x.operation) token until) }) key moment ≡ Some other → KeptOrAdded x c key moment other
-added_by x cache c token other until moment key true found held before is =
-    let t = kept_token (key_of x.image x.operation) token until in
-    let same : key_of x.image x.operation ≡ key = same_key key t found in
-    inr (sym same, subst (IsHeld x c) (given_kept cache (key_of x.image x.operation) token other until moment (subst (λ (k : Key). token_at (record cache { tokens = inserted cache.tokens t }) k moment ≡ Some other) (sym same) is)) held)
-added_by x cache c token other until moment key false apart held before is =
-    let t = kept_token (key_of x.image x.operation) token until in
-    before (sym (ap (λ (o : Option KeptToken). option_and_then (given_at moment) o) ((is_kept cache.tokens t).others key (other_key key t apart))) ∙ is)
-
-cache_added : (x : Entry) (cache : TokenCache) (c : List Exchange) (token other : RegistryTokenType) (until : Option ℕ) (moment : ℕ) (key : Key) → IsHeld x c token → (token_at cache key moment ≡ Some other → KeptOrAdded x c key moment other)
-    → token_at (option_map_or (λ u. record cache { tokens = inserted cache.tokens (kept_token (key_of x.image x.operation) token u) }) until cache) key moment ≡ Some other → KeptOrAdded x c key moment other
-cache_added x cache c token other None moment key held before is = before is
-cache_added x cache c token other (Some until) moment key held before is = added_by x cache c token other until moment key (is_under key (kept_token (key_of x.image x.operation) token until)) refl held before is
-
+-- each token that is returned then was returned before, or is that one
 pub keeps_kept : (x : Entry) (l : AuthState) (c : List Exchange) (token : RegistryTokenType) → IsHeld x c token → Keeps x l c → Keeps x (with_kept l (key_of x.image x.operation) token x.moment) c
-keeps_kept x l c token held k = record { credentials = k.credentials; tokens = λ other is. cache_by x l.tokens c token other (kept_until token l.tokens.default_expiration_secs x.moment) held (k.tokens other) is; added = λ key moment other is. cache_added x l.tokens c token other (kept_until token l.tokens.default_expiration_secs x.moment) moment key held (k.added key moment other) is; stored = k.stored }
+keeps_kept x l c token held k = record {
+  credentials = k.credentials;
+  tokens = λ other is. may_send other (token_after l.tokens here here token other x.moment x.moment is);
+  added = λ key moment other is. added_by key moment other (token_after l.tokens here key token other x.moment moment is);
+  stored = k.stored;
+} where
+  here : Key
+  here = key_of x.image x.operation
+
+  may_send : (other : RegistryTokenType) → (token_at l.tokens here x.moment ≡ Some other) ⊎ ((here ≡ here) × (other ≡ token)) → IsHeld x c other
+  may_send other (inl before) = k.tokens other before
+  may_send other (inr (same, is)) = subst (IsHeld x c) (sym is) held
+
+  added_by : (key : Key) (moment : ℕ) (other : RegistryTokenType) → (token_at l.tokens key moment ≡ Some other) ⊎ ((key ≡ here) × (other ≡ token)) → KeptOrAdded x c key moment other
+  added_by key moment other (inl before) = k.added key moment other before
+  added_by key moment other (inr (same, is)) = inr (same, subst (IsHeld x c) (sym is) held)

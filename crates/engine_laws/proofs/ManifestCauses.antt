@@ -21,7 +21,7 @@ use Rattle.engine_terms.specs.declared.settings.Settings.{Settings}
 use Rattle.engine_terms.specs.declared.error.SpecViolation.TheVariants.{Status}
 use Rattle.engine_terms.specs.declared.error.OciDistributionError.{OciDistributionError}
 use Rattle.engine_terms.specs.declared.error.OciDistributionError.TheVariants as refusal
-use Rattle.engine_terms.specs.Error.{◌>>◌ as ◌before◌}
+use Rattle.json_values.specs.Refusals.{◌>>◌ as ◌before◌}
 use Rattle.engine_requests.specs.Requests.{manifest_types}
 use Rattle.engine_answers.specs.Documents.{plain_of, type_checked, version_checked, versioned_in, or_unread, reads_twice, tables_read, document_read}
 use Rattle.engine_rows.specs.Pulls.{pull_manifest_raw, pull_manifest}

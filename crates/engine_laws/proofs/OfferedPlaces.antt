@@ -47,8 +47,15 @@ read_reading to limit n digest head is = by_test (is_error head.status) refl whe
   by_test true bad = absurd (cc (sym is ∙ ap limit_of (passed_reading to limit digest head bad)))
   by_test false good = offered_reading to limit digest head good
 
+-- what an attempt does not read, an offer does not read
+unread_offer : (to : Destination) (limit : ℕ) (digest : List ℕ) (head : AnswerHead) → blob_reading to limit digest head ≡ Unread → offer_reading to limit digest head ≡ Unread
+unread_offer to limit digest head unread = by_test (is_error head.status) refl where
+  by_test : (b : Bool) → is_error head.status ≡ b → offer_reading to limit digest head ≡ Unread
+  by_test true bad = passed_reading to limit digest head bad
+  by_test false good = offered_reading to limit digest head good ∙ unread
+
 headed_as : (to : Destination) (limit : ℕ) (digest : List ℕ) (last : Request) (before after : ℕ) (e : Exchange) (head : AnswerHead) → is_error head.status ≡ false → Replies last (offer_reading to limit digest) before e after (Headed head) → Replies last (blob_reading to limit digest) before e after (Headed head)
-headed_as to limit digest last before after e head good r = record { request_is = r.request_is; faults_is = r.faults_is; count = r.count; reply_is = (r.reply_is.0, r.reply_is.1, sym (offered_reading to limit digest head good) ∙ r.reply_is.2) }
+headed_as to limit digest last before after e head good r = record { request_is = r.request_is; faults_is = r.faults_is; count = r.count; reply_is = (r.reply_is.0, r.reply_is.1, sym (offered_reading to limit digest head good) ∙ r.reply_is.2); fails_as = tt }
 
 -- a reply that is not skipped is one to an attempt
 replies_as : (to : Destination) (limit : ℕ) (digest : List ℕ) (last : Request) (before after : ℕ) (e : Exchange) (reply : Reply) → Replies last (offer_reading to limit digest) before e after reply → IsPassed reply ⊎ Replies last (blob_reading to limit digest) before e after reply
@@ -56,10 +63,10 @@ replies_as to limit digest last before after e (Headed head) r = by_test (is_err
   by_test : (b : Bool) → is_error head.status ≡ b → IsPassed (Headed head) ⊎ Replies last (blob_reading to limit digest) before e after (Headed head)
   by_test true bad = inl bad
   by_test false good = inr (headed_as to limit digest last before after e head good r)
-replies_as to limit digest last before after e (Answered answer) r = inr (record { request_is = r.request_is; faults_is = r.faults_is; count = r.count; reply_is = (r.reply_is.0, r.reply_is.1, ap limit_of (sym (read_reading to limit r.reply_is.0 digest (head_part answer) r.reply_is.2)) ∙ r.reply_is.2, r.reply_is.3) })
-replies_as to limit digest last before after e Failed r = inr (record { request_is = r.request_is; faults_is = r.faults_is; count = r.count; reply_is = r.reply_is })
-replies_as to limit digest last before after e TooLong r = inr (record { request_is = r.request_is; faults_is = r.faults_is; count = r.count; reply_is = (r.reply_is.0, r.reply_is.1, r.reply_is.2, ap limit_of (sym (read_reading to limit r.reply_is.1 digest (head_part r.reply_is.0) r.reply_is.3)) ∙ r.reply_is.3, r.reply_is.4) })
-replies_as to limit digest last before after e SinkFailed r = inr (record { request_is = r.request_is; faults_is = r.faults_is; count = r.count; reply_is = (r.reply_is.0, r.reply_is.1, r.reply_is.2, sym (read_reading to limit r.reply_is.1 digest (head_part r.reply_is.0) (ap limit_of r.reply_is.3)) ∙ r.reply_is.3) })
+replies_as to limit digest last before after e (Answered answer) r = inr (record { request_is = r.request_is; faults_is = r.faults_is; count = r.count; reply_is = (r.reply_is.0, r.reply_is.1, ap limit_of (sym (read_reading to limit r.reply_is.0 digest (head_part answer) r.reply_is.2)) ∙ r.reply_is.2, r.reply_is.3); fails_as = tt })
+replies_as to limit digest last before after e Failed r = inr (record { request_is = r.request_is; faults_is = r.faults_is; count = r.count; reply_is = r.reply_is; fails_as = λ answer is unread. r.fails_as answer is (unread_offer to limit digest (head_part answer) unread) })
+replies_as to limit digest last before after e TooLong r = inr (record { request_is = r.request_is; faults_is = r.faults_is; count = r.count; reply_is = (r.reply_is.0, r.reply_is.1, r.reply_is.2, ap limit_of (sym (read_reading to limit r.reply_is.1 digest (head_part r.reply_is.0) r.reply_is.3)) ∙ r.reply_is.3, r.reply_is.4); fails_as = tt })
+replies_as to limit digest last before after e SinkFailed r = inr (record { request_is = r.request_is; faults_is = r.faults_is; count = r.count; reply_is = (r.reply_is.0, r.reply_is.1, r.reply_is.2, sym (read_reading to limit r.reply_is.1 digest (head_part r.reply_is.0) (ap limit_of r.reply_is.3)) ∙ r.reply_is.3); fails_as = tt })
 
 heard_replies : (to : Destination) (limit : ℕ) (digest : List ℕ) (request : Request) (m : ℕ) (c : List Exchange) (after : ℕ) (last : Request) (reply : Reply) → Heard 10 request (offer_reading to limit digest) m c after last reply → IsPassed reply ⊎ Heard 10 request (blob_reading to limit digest) m c after last reply
 heard_replies to limit digest request m c after last reply h = by_kind (replies_as to limit digest last h.before after h.exchange reply h.replies) where

@@ -25,7 +25,7 @@ use Rattle.oci_descriptors.specs.declared.index_entry.ImageIndexEntry.{ImageInde
 use Rattle.oci_descriptors.specs.declared.descriptor.OciDescriptor.{OciDescriptor}
 use Rattle.oci_manifests.specs.declared.document.OciManifest.TheVariants.{Image, ImageIndex}
 use Rattle.engine_terms.specs.declared.error.GenericCause.TheVariants.{ConfigNotText, HeaderText}
-use Rattle.engine_terms.specs.Error.{◌>>=◌ as ◌into◌}
+use Rattle.json_values.specs.Refusals.{◌>>=◌ as ◌into◌}
 
 -- the refusal is neither a fault of the sink nor an invalid header value
 abbrev pub IsPlain : OciDistributionError → Type 0

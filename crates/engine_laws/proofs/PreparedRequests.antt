@@ -1,12 +1,12 @@
 -- What the requests of a client are, and which requests its token step sends before them.
 use Rattle.std.proofs.Common.{◌≡◌, ℕ, zero, Bool, true, false, List, [], ◌∷◌, ◌++◌, Option, Some, None, Result, Ok, Err, codes, unwrap_or, refl, sym, ap, subst, ◌∙◌, append-nil}
-use Rattle.std.specs.Prelude.{nat_lt, ◌&&◌, if◌then◌else◌}
+use Rattle.std.specs.Prelude.{◌&&◌, if◌then◌else◌, ok_or}
 use Rattle.std.specs.FinMap as map
 use Rattle.std.specs.FinMap.{get-insert, get-empty}
 use Rattle.std.specs.Cmp.Lexicographic.{nat_list_cmp_total}
 use Rattle.url.specs.Parts.{Parts, serialize}
 use Rattle.json_values.specs.Places.{by_bytes}
-use Rattle.oci_transport.specs.Headers.{Fields, values_of, added, held, is_header_value}
+use Rattle.oci_transport.specs.Headers.{Fields, values_of, added, is_header_value, has_room}
 use Rattle.oci_transport.specs.Urls.{request_url}
 use Rattle.oci_transport.specs.declared.message.Request.{Request}
 use Rattle.oci_transport.specs.Link.{answer_of}
@@ -19,10 +19,10 @@ use Rattle.oci_names.specs.declared.reference.Reference.{Reference}
 use Rattle.oci_names.specs.Reference.{resolved_registry}
 use Rattle.oci_auth.specs.declared.auth.RegistryAuth.{RegistryAuth}
 use Rattle.oci_auth.specs.declared.auth_state.AuthState.{AuthState}
+use Rattle.oci_auth.specs.Auth.{unasked}
 use Rattle.oci_auth.specs.AuthState.{stored}
 use Rattle.oci_auth.specs.Cache.{key_of, token_at}
 use Rattle.oci_auth.specs.Kept.{Key}
-use Rattle.oci_auth.specs.declared.auth.RegistryAuth.TheVariants as credentials
 use Rattle.oci_auth.specs.declared.token_type.RegistryOperation.{RegistryOperation}
 use Rattle.oci_auth.specs.declared.token_type.RegistryTokenType.{RegistryTokenType}
 use Rattle.http_challenges.specs.declared.bearer.BearerChallenge.{BearerChallenge}
@@ -35,14 +35,14 @@ use Rattle.engine_terms.specs.Contexts.{Context}
 use Rattle.engine_terms.specs.declared.settings.Settings.{Settings}
 use Rattle.engine_terms.specs.declared.error.GenericCause.TheVariants.{HeaderText}
 use Rattle.engine_terms.specs.declared.error.OciDistributionError.TheVariants as refusal
-use Rattle.engine_terms.specs.Error.{◌>>=◌ as ◌into◌}
+use Rattle.json_values.specs.Refusals.{◌>>=◌ as ◌into◌}
 use Rattle.engine_requests.specs.Addresses.{url_or, url_read, base_text, registry_text}
 use Rattle.engine_requests.specs.Requests.{with_header, with_accept, with_token, headers_of, request_of, bare_request}
 use Rattle.engine_requests.specs.Tokens.{wanted, realm_request, token_read}
 use Rattle.engine_requests.specs.declared.tokens.Wanted.{Wanted}
 use Rattle.engine_requests.specs.declared.tokens.Wanted.TheVariants as wants
 use Rattle.engine_terms.specs.declared.error.OciDistributionError.{OciDistributionError}
-use Rattle.engine_rows.specs.Rows.{whole_reply, whole, head_reply, head_after, recalled, store, realm_asked, fetched, registry_asked, token_step, with_kept, passed_over, taken, token_asked, kept_or_asked, token_by, token_for, goes_to, token_where, authorized, prepared}
+use Rattle.engine_rows.specs.Rows.{whole_reply, whole, head_reply, head_after, recalled, store, realm_asked, fetched, registry_asked, unasked_or_asked, token_step, with_kept, passed_over, taken, token_asked, kept_or_asked, token_by, token_for, goes_to, token_where, authorized, prepared}
 use Rattle.engine_rows.specs.Answered.{AsksRegistry, AsksRealm, OfTokenStep, Asks}
 
 -- ---- how a request is built
@@ -52,8 +52,8 @@ accept_none name =
     ap (λ (o : Option (List (List ℕ))). unwrap_or o []) (get-insert nat_list_cmp_total map.empty (codes "user-agent") (values_of (codes "user-agent") map.empty ++ name ∷ []) (codes "accept") ∙ get-empty by_bytes (codes "accept"))
 
 pub with_ok : (headers : Fields) (name value : List ℕ) (made : Fields) → with_header headers name value ≡ Ok made → made ≡ added headers name value
-with_ok headers name value made = by_test (is_header_value value && nat_lt (held headers) 1000) where
-  by_test : (b : Bool) → (if b then Ok (added headers name value) else Err (refusal.GenericError HeaderText)) ≡ Ok made → made ≡ added headers name value
+with_ok headers name value made = by_test (is_header_value value && has_room headers) where
+  by_test : (b : Bool) → (ok_or (if b then Some (added headers name value) else None) (refusal.GenericError HeaderText)) ≡ Ok made → made ≡ added headers name value
   by_test true is = cc
   by_test false is = cc
 
@@ -231,9 +231,10 @@ stepped_registry s image a op = EveryRun-step (Stepped s image op) (url_read (ba
     (λ m n c r h. after_head s image a op request m n c r (record { url = url; address = url_some (base_text s image) (request_url (base_text s image)) url read; made = made }) h)) (λ e is m. tt)) (λ e is m. tt)
 
 stepped_token : (s : Settings) (image : Reference) (a : RegistryAuth) (op : RegistryOperation) → EveryRun (Stepped s image op) (token_step s image a op)
-stepped_token s image (credentials.Bearer token) op = EveryRun-done (Stepped s image op) _ (λ m. tt)
-stepped_token s image (credentials.Basic user password) op = stepped_registry s image (credentials.Basic user password) op
-stepped_token s image credentials.Anonymous op = stepped_registry s image credentials.Anonymous op
+stepped_token s image a op = by_unasked (unasked a) where
+  by_unasked : (o : Option RegistryTokenType) → EveryRun (Stepped s image op) (unasked_or_asked s image a op o)
+  by_unasked (Some token) = EveryRun-done (Stepped s image op) _ (λ m. tt)
+  by_unasked None = stepped_registry s image a op
 
 stepped_asked : (s : Context) (image : Reference) (op : RegistryOperation) (a : RegistryAuth) → EveryRun (Stepped s.settings image op) (token_asked s image op a)
 unfolding token_asked

@@ -10,7 +10,7 @@ use Rattle.oci_protocol.specs.Proto.{Done, bind, unless_refused, ◌>>=◌}
 use Rattle.oci_protocol.specs.Ends.{Ends}
 use Rattle.engine_requests.specs.Addresses.{url_or, url_read}
 use Rattle.engine_terms.specs.Contexts.{Context}
-use Rattle.engine_terms.specs.Error.{◌>>=◌ as ◌into◌}
+use Rattle.json_values.specs.Refusals.{◌>>=◌ as ◌into◌}
 use Rattle.engine_requests.specs.ReferrerLists.{digest_given, referrers_text, referrers_url, with_artifact_type}
 use Rattle.engine_requests.specs.Requests.{manifest_types}
 use Rattle.engine_terms.specs.declared.error.OciDistributionError.{OciDistributionError}

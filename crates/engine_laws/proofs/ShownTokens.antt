@@ -1,13 +1,13 @@
 -- Which values may be invalid header values: the user agent, the types, or a token that the call may send.
 use Rattle.std.proofs.Common.{◌≡◌, ◌⊎◌, inl, inr, ℕ, Bool, true, false, List, [], ◌∷◌, ◌++◌, Option, Some, None, Result, Ok, Err, codes, length, unwrap_or, refl, sym, ap, subst, ◌∙◌}
-use Rattle.std.specs.Prelude.{◌&&◌, nat_lt, sum_by, if◌then◌else◌}
+use Rattle.std.specs.Prelude.{◌&&◌, nat_lt, sum_by, if◌then◌else◌, ok_or}
 use Rattle.std.proofs.lemmas.List.{nil_from_length}
 use Rattle.std.specs.FinMap as map
 use Rattle.std.specs.FinMap.{entries-insert, len-entries, len-empty, get-empty, put}
 use Rattle.std.specs.Cmp.Lexicographic.{nat_list_cmp_total}
 use Rattle.url.specs.Parts.{Parts, serialize}
 use Rattle.json_values.specs.Places.{by_bytes}
-use Rattle.oci_transport.specs.Headers.{Fields, values_of, added, held, is_header_value}
+use Rattle.oci_transport.specs.Headers.{Fields, values_of, added, held, is_header_value, has_room}
 use Rattle.oci_transport.specs.Urls.{request_url}
 use Rattle.oci_transport.specs.declared.message.Request.{Request}
 use Rattle.oci_transport.specs.declared.message.AnswerHead.{AnswerHead}
@@ -18,11 +18,11 @@ use Rattle.oci_names.specs.declared.reference.Reference.{Reference}
 use Rattle.oci_names.specs.Reference.{resolved_registry}
 use Rattle.http_challenges.specs.declared.bearer.BearerChallenge.{BearerChallenge}
 use Rattle.oci_auth.specs.Cache.{key_of, token_at}
-use Rattle.oci_auth.specs.Auth.{own_token, authorization_of}
+use Rattle.oci_auth.specs.Auth.{own_token, unasked, authorization_of}
 use Rattle.oci_auth.specs.declared.auth.RegistryAuth.{RegistryAuth}
-use Rattle.oci_auth.specs.declared.auth.RegistryAuth.TheVariants as credentials
 use Rattle.oci_auth.specs.declared.auth_state.AuthState.{AuthState}
 use Rattle.oci_auth.specs.declared.token_type.RegistryTokenType.{RegistryTokenType}
+use Rattle.oci_auth.proofs.Forms.{unasked_own}
 use Rattle.oci_protocol.specs.Proto.{Reading, Unread, read_none, read_within, Reply, Headed, Answered, Failed, TooLong, SinkFailed, Proto, Done, bind, unless_refused, ◌>>=◌}
 use Rattle.oci_protocol.specs.Follow.{follow}
 use Rattle.oci_protocol.specs.Runs.{Replies}
@@ -36,11 +36,11 @@ use Rattle.engine_terms.specs.declared.error.OciDistributionError.{OciDistributi
 use Rattle.engine_terms.specs.declared.error.OciDistributionError.TheVariants as refusal
 use Rattle.engine_requests.specs.declared.tokens.Wanted.{Wanted}
 use Rattle.engine_requests.specs.declared.tokens.Wanted.TheVariants as wants
-use Rattle.engine_terms.specs.Error.{◌>>=◌ as ◌into◌}
+use Rattle.json_values.specs.Refusals.{◌>>=◌ as ◌into◌}
 use Rattle.engine_requests.specs.Addresses.{url_or, url_read, base_text, registry_text}
 use Rattle.engine_requests.specs.Requests.{with_header, with_accept, with_token, headers_of, request_of, bare_request}
 use Rattle.engine_requests.specs.Tokens.{wanted, realm_request, token_read}
-use Rattle.engine_rows.specs.Rows.{Row, store, whole_reply, whole, head_reply, head_after, realm_asked, fetched, registry_asked, token_step, passed_over, taken, token_asked, kept_or_asked, token_by, token_for, goes_to, token_where, authorized, prepared}
+use Rattle.engine_rows.specs.Rows.{Row, store, whole_reply, whole, head_reply, head_after, realm_asked, fetched, registry_asked, unasked_or_asked, token_step, passed_over, taken, token_asked, kept_or_asked, token_by, token_for, goes_to, token_where, authorized, prepared}
 use Rattle.engine_laws.proofs.PlainRefusals.{IsPlain, Plain}
 use Rattle.oci_transport.specs.Urls.{targets}
 use Rattle.oci_transport.specs.declared.message.Answer.{Answer}
@@ -83,15 +83,15 @@ two_held name types =
 -- the refused value is not a valid header value, since there is room
 pub refused_value : (headers : Fields) (name value : List ℕ) (e : OciDistributionError) (n : ℕ) → held headers ≡ n → nat_lt n 1000 ≡ true → with_header headers name value ≡ Err e → is_header_value value ≡ false
 refused_value headers name value e n few small = by_test (is_header_value value) refl where
-  room : nat_lt (held headers) 1000 ≡ true
+  room : has_room headers ≡ true
   room = ap (λ n. nat_lt n 1000) few ∙ small
 
-  by_both : (both : Bool) → both ≡ true → (if both then Ok (added headers name value) else Err (refusal.GenericError HeaderText)) ≡ Err e → ⊥
+  by_both : (both : Bool) → both ≡ true → (ok_or (if both then Some (added headers name value) else None) (refusal.GenericError HeaderText)) ≡ Err e → ⊥
   by_both true is h = cc h
   by_both false is h = cc is
 
-  by_test : (b : Bool) → is_header_value value ≡ b → (if b && nat_lt (held headers) 1000 then Ok (added headers name value) else Err (refusal.GenericError HeaderText)) ≡ Err e → is_header_value value ≡ false
-  by_test true test h = absurd (by_both (nat_lt (held headers) 1000) room h)
+  by_test : (b : Bool) → is_header_value value ≡ b → (ok_or (if b && has_room headers then Some (added headers name value) else None) (refusal.GenericError HeaderText)) ≡ Err e → is_header_value value ≡ false
+  by_test true test h = absurd (by_both (has_room headers) room h)
   by_test false test h = test
 
 -- which of two steps returned the error
@@ -307,9 +307,10 @@ registry_safe x s a l c known keeps = kept_step x s (Asked x) (url_read (base_te
     (head_unless x s a url request known (read_is (base_text s x.image) (request_url (base_text s x.image)) url refl is) (request_method_is s Get url None None request made) (request_url_is s Get url None None request made))))
 
 pub step_safe : (x : Entry) (s : Settings) (a : RegistryAuth) (l : AuthState) (c : List Exchange) → IsAuth x a → Keeps x l c → Safe (Carries x s) (Keeps x) (Asked x) l c (token_step s x.image a x.operation)
-step_safe x s (credentials.Bearer token) l c known keeps = safe_done x s (Asked x) l c _ (keeps, own_shown x c (credentials.Bearer token) (own_token (credentials.Bearer token)) known refl)
-step_safe x s (credentials.Basic user password) l c known keeps = registry_safe x s (credentials.Basic user password) l c known keeps
-step_safe x s credentials.Anonymous l c known keeps = registry_safe x s credentials.Anonymous l c known keeps
+step_safe x s a l c known keeps = by_unasked (unasked a) refl where
+  by_unasked : (o : Option RegistryTokenType) → unasked a ≡ o → Safe (Carries x s) (Keeps x) (Asked x) l c (unasked_or_asked s x.image a x.operation o)
+  by_unasked (Some token) is = safe_done x s (Asked x) l c _ (keeps, own_shown x c a (Some token) known (unasked_own a token is))
+  by_unasked None is = registry_safe x s a l c known keeps
 
 -- ---- the calls that make it
 

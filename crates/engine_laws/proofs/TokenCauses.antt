@@ -1,6 +1,6 @@
 -- Why the call for a token was refused.
 use Rattle.std.proofs.Common.{◌≡◌, ◌≢◌, ◌<◌, ◌⊎◌, inl, inr, ℕ, Bool, true, false, List, [], ◌++◌, Option, Some, None, Result, Ok, Err, IfErr, codes, length, refl, sym, ap, subst, ◌∙◌, append-nil}
-use Rattle.std.specs.Prelude.{nat_eq, if◌then◌else◌}
+use Rattle.std.specs.Prelude.{nat_eq, if◌then◌else◌, ok_or}
 use Rattle.std.specs.FinMap as map
 use Rattle.url.specs.Parts.{Parts}
 use Rattle.json_values.specs.Counts.{Increased}
@@ -16,11 +16,10 @@ use Rattle.oci_transport.specs.declared.message.Method.TheVariants.{Get}
 use Rattle.oci_names.specs.declared.reference.Reference.{Reference}
 use Rattle.http_challenges.specs.declared.bearer.BearerChallenge.{BearerChallenge}
 use Rattle.oci_auth.specs.Cache.{key_of}
-use Rattle.oci_auth.specs.Auth.{own_token, authorization_of}
+use Rattle.oci_auth.specs.Auth.{own_token, unasked, authorization_of}
 use Rattle.oci_auth.specs.Kept.{Key}
 use Rattle.oci_auth.specs.Token.{token_of}
 use Rattle.oci_auth.specs.declared.auth.RegistryAuth.{RegistryAuth}
-use Rattle.oci_auth.specs.declared.auth.RegistryAuth.TheVariants as credentials
 use Rattle.oci_auth.specs.declared.auth_state.AuthState.{AuthState}
 use Rattle.oci_auth.specs.declared.token.RegistryToken.{RegistryToken}
 use Rattle.oci_auth.specs.declared.token_type.RegistryOperation.{RegistryOperation}
@@ -37,11 +36,12 @@ use Rattle.engine_terms.specs.declared.error.OciDistributionError.{OciDistributi
 use Rattle.engine_terms.specs.declared.error.OciDistributionError.TheVariants as refusal
 use Rattle.engine_requests.specs.declared.tokens.Wanted.{Wanted}
 use Rattle.engine_requests.specs.declared.tokens.Wanted.TheVariants as wants
-use Rattle.engine_terms.specs.Error.{is_memory, ◌>>=◌ as ◌into◌}
+use Rattle.json_values.specs.Refusals.{◌>>=◌ as ◌into◌}
+use Rattle.engine_terms.specs.Error.{is_memory}
 use Rattle.engine_requests.specs.Addresses.{url_or, url_read, base_text}
 use Rattle.engine_requests.specs.Requests.{with_header, with_accept, with_token, headers_of, request_of, bare_request}
 use Rattle.engine_requests.specs.Tokens.{wanted, realm_url, realm_request, decoded, token_read}
-use Rattle.engine_rows.specs.Rows.{Row, recalled, keep, store, with_kept, shown_text, whole_reply, whole, head_reply, head_after, realm_asked, fetched, registry_asked, token_step, kept_text, token_given}
+use Rattle.engine_rows.specs.Rows.{Row, recalled, keep, store, with_kept, shown_text, whole_reply, whole, head_reply, head_after, realm_asked, fetched, registry_asked, unasked_or_asked, token_step, kept_text, token_given}
 use Rattle.engine_rows.specs.TokenCauses.{LastIs, WithAnswer, LastRealm, TokenUrl, TokenCause}
 use Rattle.engine_laws.proofs.PreparedRequests.{with_ok}
 use Rattle.engine_laws.proofs.DocumentCauses.{status_is, status_other}
@@ -73,7 +73,7 @@ url_cause s image a now c text None e here found is = let same : refusal.UrlPars
 -- a value of the request is not a valid header value
 header_is : (headers : Fields) (name value : List ℕ) (e : OciDistributionError) → with_header headers name value ≡ Err e → e ≡ refusal.GenericError HeaderText
 header_is headers name value e = by_test _ where
-  by_test : (b : Bool) → ◌≡◌ {A = Result Fields OciDistributionError} (if b then Ok (added headers name value) else Err (refusal.GenericError HeaderText)) (Err e) → e ≡ refusal.GenericError HeaderText
+  by_test : (b : Bool) → ◌≡◌ {A = Result Fields OciDistributionError} (ok_or (if b then Some (added headers name value) else None) (refusal.GenericError HeaderText)) (Err e) → e ≡ refusal.GenericError HeaderText
   by_test true is = absurd (cc is)
   by_test false is = cc is
 
@@ -239,9 +239,10 @@ registry_shown s image a op = EveryRun-step (ByResult Any (Refused s image a)) (
     (λ e is m. url_cause s image a m [] (base_text s image) (request_url (base_text s image)) e (inl refl) refl is)
 
 step_shown : (s : Settings) (image : Reference) (a : RegistryAuth) (op : RegistryOperation) → Shown s image a (token_step s image a op)
-step_shown s image (credentials.Bearer token) op = done_shown s image (credentials.Bearer token) (own_token (credentials.Bearer token))
-step_shown s image (credentials.Basic user password) op = registry_shown s image (credentials.Basic user password) op
-step_shown s image credentials.Anonymous op = registry_shown s image credentials.Anonymous op
+step_shown s image a op = by_unasked (unasked a) where
+  by_unasked : (o : Option RegistryTokenType) → Shown s image a (unasked_or_asked s image a op o)
+  by_unasked (Some token) = done_shown s image a (Some token)
+  by_unasked None = registry_shown s image a op
 
 recalled_shown : (s : Settings) (image : Reference) (a : RegistryAuth) → Shown s image a recalled
 recalled_shown s image a = EveryRun-recall (ByResult Any (Refused s image a)) _ (λ k. done_shown s image a k)

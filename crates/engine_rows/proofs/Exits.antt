@@ -11,7 +11,8 @@ use Rattle.oci_protocol.proofs.Laws.{Meets-next, Meets-refused, Meets-ok, Meets-
 use Rattle.engine_terms.specs.declared.error.OciDistributionError.{OciDistributionError}
 use Rattle.engine_terms.specs.declared.error.OciDistributionError.TheVariants as refusal
 use Rattle.oci_auth.specs.declared.auth_state.AuthState.{AuthState}
-use Rattle.engine_terms.specs.Error.{is_memory, Matches}
+use Rattle.json_values.specs.Refusals.{Matches}
+use Rattle.engine_terms.specs.Error.{is_memory}
 use Rattle.engine_rows.specs.Rows.{Row, recalled as recall, keep, passed_over, store, with_kept, taken, shown_text, kept_text}
 use Rattle.oci_auth.specs.declared.auth.RegistryAuth.{RegistryAuth}
 use Rattle.oci_names.specs.declared.reference.Reference.{Reference}
@@ -49,7 +50,7 @@ pub keeps : {link : Link} {k l : AuthState} → Meets is_memory (keep l) link li
 keeps {link} {k} {l} = Meets-keep l (Done (Ok tt)) (Meets-ok is_memory link l tt)
 
 -- a step without a request
-pub said : {A : Type 0} (r : Result A OciDistributionError) {s : Result A OciDistributionError} {link : Link} {k : AuthState} → Matches r s → Meets is_memory (Done s) link link k k r
+pub said : {A : Type 0} (r : Result A OciDistributionError) {s : Result A OciDistributionError} {link : Link} {k : AuthState} → Matches is_memory r s → Meets is_memory (Done s) link link k k r
 said (Ok a) h = rw h done
 said {A} (Err e) {s} {link} {k} h = record { outcome = refusing (is_memory e) h } where
   refusing : (b : Bool) → MatchBool b (Unit {0}) (s ≡ Err e) → MatchBool b (PerformsPrefix {A = Result A OciDistributionError} (Done s) link link k k) (Performs (Done s) link link k k (Err e))

@@ -16,7 +16,8 @@ use Rattle.engine_terms.specs.declared.error.OciDistributionError.{OciDistributi
 use Rattle.engine_terms.specs.declared.error.OciDistributionError.TheVariants as refusal
 use Rattle.engine_answers.specs.declared.blobs.Plan.{Plan}
 use Rattle.engine_answers.specs.declared.blobs.Plan.TheVariants as plan
-use Rattle.engine_terms.specs.Error.{is_memory, ◌>>◌}
+use Rattle.json_values.specs.Refusals.{◌>>◌}
+use Rattle.engine_terms.specs.Error.{is_memory}
 use Rattle.engine_answers.specs.Answers.{refused_answer, is_success}
 use Rattle.engine_answers.specs.Blobs.{plan_of, both_compared}
 use Rattle.engine_rows.specs.Rows.{Row}

@@ -15,10 +15,9 @@ use Rattle.oci_auth.specs.declared.auth.RegistryAuth.{RegistryAuth}
 use Rattle.oci_auth.specs.declared.auth_state.AuthState.{AuthState}
 use Rattle.oci_auth.specs.AuthState.{stored}
 use Rattle.oci_auth.specs.Cache.{key_of, token_at, with_token}
-use Rattle.oci_auth.specs.Auth.{own_token}
+use Rattle.oci_auth.specs.Auth.{own_token, unasked}
 use Rattle.oci_auth.specs.Kept.{Key}
 use Rattle.oci_auth.specs.Token.{token_text}
-use Rattle.oci_auth.specs.declared.auth.RegistryAuth.TheVariants as auth
 use Rattle.oci_auth.specs.declared.token_type.RegistryOperation.{RegistryOperation}
 use Rattle.oci_auth.specs.declared.token_type.RegistryTokenType.{RegistryTokenType}
 use Rattle.oci_auth.specs.declared.token_type.RegistryTokenType.TheVariants as token
@@ -135,11 +134,15 @@ registry_asked s image a op = do
   head ← head_after 0 request
   fetched s image a op (wanted head)
 
+-- a token that needs no request, or else what the registry requires
+abbrev pub unasked_or_asked : Settings → Reference → RegistryAuth → RegistryOperation → Option RegistryTokenType
+    → Row (Option RegistryTokenType)
+unasked_or_asked s image a op (Some token) = Done (Ok (Some token))
+unasked_or_asked s image a op None = registry_asked s image a op
+
 -- the token step: a token that was passed in needs no request
 abbrev pub token_step : Settings → Reference → RegistryAuth → RegistryOperation → Row (Option RegistryTokenType)
-token_step s image (auth.Bearer token) op = Done (Ok (own_token (auth.Bearer token)))
-token_step s image (auth.Basic user password) op = registry_asked s image (auth.Basic user password) op
-token_step s image auth.Anonymous op = registry_asked s image auth.Anonymous op
+token_step s image a op = unasked_or_asked s image a op (unasked a)
 
 -- the client state after this token was obtained
 abbrev pub with_kept : AuthState → Key → RegistryTokenType → ℕ → AuthState

@@ -1,6 +1,7 @@
 // The parts of an image that are computed from its documents and blobs.
 ghost use Rattle.std.specs.Prelude.{◌≡◌, IfOk};
-ghost use Rattle.engine_terms.specs.Error.{Matches};
+ghost use Rattle.json_values.specs.Refusals.{Matches};
+ghost use Rattle.engine_terms.specs.Error.{is_memory};
 ghost use Rattle.engine_rows.specs.Image.{image_manifest, is_accepted, all_accepted};
 ghost use Rattle.engine_rows.specs.Image.{layers_accepted, layer_of, config_of};
 
@@ -39,7 +40,7 @@ impl Copied for ImageData {
 
 /// Returns the manifest of an image; an index is refused.
 pub fn image_manifest(document: OciManifest) -> Result<OciImageManifest, OciDistributionError>
-    ensures { Matches result (image_manifest document) }
+    ensures { Matches is_memory result (image_manifest document) }
 {
     match document {
         OciManifest::Image(manifest) => Ok(manifest),
@@ -66,7 +67,7 @@ pub fn layers_accepted(
     accepted: &[Text],
     layers: &[OciDescriptor],
 ) -> Result<(), OciDistributionError>
-    ensures { Matches result (layers_accepted accepted.now layers.now) }
+    ensures { Matches is_memory result (layers_accepted accepted.now layers.now) }
 {
     if layers.is_empty() {
         return Err(OciDistributionError::PullNoLayersError);
@@ -80,7 +81,7 @@ fn all_accepted(
     accepted: &[Text],
     layers: &[OciDescriptor],
 ) -> Result<(), OciDistributionError>
-    ensures { Matches result (all_accepted accepted.now layers.now) }
+    ensures { Matches is_memory result (all_accepted accepted.now layers.now) }
 {
     for layer in layers {
         if !is_accepted(accepted, layer.media_type.as_str()) {

@@ -34,7 +34,7 @@ whole_long times request limit head last old mid new reach le same steady long k
 pub whole_failed : (times : ℕ) (request : Request) (limit : ℕ) (head : AnswerHead) (last : Request) (old mid new : Link) → Reaches times request head last old mid → mid.faults ≤ new.faults → new.told ≡ mid.told → Steady mid new → Increased mid.faults new.faults
     → (k : AuthState) → Meets is_memory (whole times request limit) old new k k (Err refusal.TransportFault)
 unfolding whole
-whole_failed times request limit head last old mid new reach le same steady rose k = reached_failed times request (read_within limit) whole_reply head last reach le same steady rose (Meets-err is_memory new k refusal.TransportFault refl)
+whole_failed times request limit head last old mid new reach le same steady rose k = reached_failed times request (read_within limit) whole_reply head last limit reach (within limit head) le same steady rose (Meets-err is_memory new k refusal.TransportFault refl)
 
 pub whole_cut : (times : ℕ) (request : Request) (limit : ℕ) (head : AnswerHead) (last : Request) (old mid new : Link) → Reaches times request head last old mid → mid.faults ≤ new.faults → new.told ≡ mid.told → Steady mid new
     → (k : AuthState) → Meets is_memory (whole times request limit) old new k k (Err refusal.WantOfMemory)

@@ -16,7 +16,8 @@ use Rattle.oci_protocol.proofs.RedirectSteps.{reached_headed, reached_answered, 
 use Rattle.oci_protocol.proofs.Conversations.{Steady-none}
 use Rattle.engine_terms.specs.declared.error.OciDistributionError.{OciDistributionError}
 use Rattle.engine_terms.specs.declared.error.OciDistributionError.TheVariants as refusal
-use Rattle.engine_terms.specs.Error.{is_memory, Matches}
+use Rattle.json_values.specs.Refusals.{Matches}
+use Rattle.engine_terms.specs.Error.{is_memory}
 use Rattle.engine_answers.specs.Answers.{header_digest}
 use Rattle.engine_rows.specs.declared.named.NamedAnswer.{NamedAnswer}
 use Rattle.engine_rows.specs.declared.named.NamedAnswer.TheVariants.{ByHeader}
@@ -24,10 +25,10 @@ use Rattle.engine_rows.specs.Rows.{named_after, named_reading, reading_named, un
 use Rattle.engine_rows.proofs.Exits.{said}
 
 -- the header names no digest, or one that is refused
-unread_met : (d e : Result (Option (List ℕ)) OciDistributionError) (r : Result NamedAnswer OciDistributionError) (link : Link) (k : AuthState) → d ≡ e → Matches r (unread_named e) → Meets is_memory (Done (unread_named d)) link link k k r
+unread_met : (d e : Result (Option (List ℕ)) OciDistributionError) (r : Result NamedAnswer OciDistributionError) (link : Link) (k : AuthState) → d ≡ e → Matches is_memory r (unread_named e) → Meets is_memory (Done (unread_named d)) link link k k r
 unread_met d e r link k is says = said r (rw is says)
 
-pub named_unread : (times : ℕ) (request : Request) (limit : ℕ) (head : AnswerHead) (last : Request) (old new : Link) (k : AuthState) (d : Result (Option (List ℕ)) OciDistributionError) (r : Result NamedAnswer OciDistributionError) → Reaches times request head last old new → header_digest head.headers ≡ d → reading_named limit d ≡ Unread → Matches r (unread_named d) → Meets is_memory (named_after times request limit) old new k k r
+pub named_unread : (times : ℕ) (request : Request) (limit : ℕ) (head : AnswerHead) (last : Request) (old new : Link) (k : AuthState) (d : Result (Option (List ℕ)) OciDistributionError) (r : Result NamedAnswer OciDistributionError) → Reaches times request head last old new → header_digest head.headers ≡ d → reading_named limit d ≡ Unread → Matches is_memory r (unread_named d) → Meets is_memory (named_after times request limit) old new k k r
 unfolding named_after named_reading
 named_unread times request limit head last old new k d r reach is unread says = reached_headed times request (named_reading limit) named_reply head last reach (ap (reading_named limit) is ∙ unread) (unread_met (header_digest head.headers) d r new k is says)
 
@@ -45,10 +46,10 @@ pub named_long : (times : ℕ) (request : Request) (limit : ℕ) (head : AnswerH
 unfolding named_after
 named_long times request limit head last digest old mid new k reach is le same steady long = reached_long times request (named_reading limit) named_reply head last limit reach (at_digest limit digest head is) le same steady long (Meets-err is_memory new k refusal.BodyTooLong refl)
 
-pub named_failed : (times : ℕ) (request : Request) (limit : ℕ) (head : AnswerHead) (last : Request) (old mid new : Link) (k : AuthState) → Reaches times request head last old mid → mid.faults ≤ new.faults → new.told ≡ mid.told → Steady mid new → Increased mid.faults new.faults
+pub named_failed : (times : ℕ) (request : Request) (limit : ℕ) (head : AnswerHead) (last : Request) (digest : List ℕ) (old mid new : Link) (k : AuthState) → Reaches times request head last old mid → header_digest head.headers ≡ Ok (Some digest) → mid.faults ≤ new.faults → new.told ≡ mid.told → Steady mid new → Increased mid.faults new.faults
     → Meets is_memory (named_after times request limit) old new k k (Err refusal.TransportFault)
 unfolding named_after
-named_failed times request limit head last old mid new k reach le same steady rose = reached_failed times request (named_reading limit) named_reply head last reach le same steady rose (Meets-err is_memory new k refusal.TransportFault refl)
+named_failed times request limit head last digest old mid new k reach is le same steady rose = reached_failed times request (named_reading limit) named_reply head last limit reach (at_digest limit digest head is) le same steady rose (Meets-err is_memory new k refusal.TransportFault refl)
 
 pub named_wanting : (times : ℕ) (request : Request) (limit : ℕ) (head : AnswerHead) (last : Request) (old mid new : Link) (k : AuthState) → Reaches times request head last old mid → mid.faults ≤ new.faults → new.told ≡ mid.told → Steady mid new → Meets is_memory (named_after times request limit) old new k k (Err refusal.WantOfMemory)
 unfolding named_after
@@ -67,7 +68,7 @@ unfolding named_after
 cut_at times request limit head last old new k e reach of_memory = reached_cut is_memory times request (named_reading limit) named_reply head last k e reach (omega arith) refl (Steady-none new) of_memory
 
 -- the header is refused, or memory ran out while reading it
-pub named_refused : (times : ℕ) (request : Request) (limit : ℕ) (head : AnswerHead) (last : Request) (old new : Link) (k : AuthState) (e : OciDistributionError) (r : Result NamedAnswer OciDistributionError) → Reaches times request head last old new → Matches {A = Option (List ℕ)} (Err e) (header_digest head.headers) → IsErrAnd r (λ x. x ≡ e) → Meets is_memory (named_after times request limit) old new k k r
+pub named_refused : (times : ℕ) (request : Request) (limit : ℕ) (head : AnswerHead) (last : Request) (old new : Link) (k : AuthState) (e : OciDistributionError) (r : Result NamedAnswer OciDistributionError) → Reaches times request head last old new → Matches {A = Option (List ℕ)} is_memory (Err e) (header_digest head.headers) → IsErrAnd r (λ x. x ≡ e) → Meets is_memory (named_after times request limit) old new k k r
 named_refused times request limit head last old new k e r reach says is = let at = err_from_is_err_and r is in rw (at.1, at.2) (by_memory (is_memory e) refl says) where
   by_memory : (b : Bool) → is_memory e ≡ b → MatchBool b (Unit {0}) (header_digest head.headers ≡ Err e) → Meets is_memory (named_after times request limit) old new k k (Err e)
   by_memory true of_memory says = cut_at times request limit head last old new k e reach of_memory

@@ -1,10 +1,13 @@
--- A realm's response results in a token of its own, or a refusal.
+-- A realm's response results in a token of its own, or a refusal; a token that is sent unasked is one too.
 use Rattle.std.specs.Prelude.{◌≡◌, ℕ, nat_eq, Bool, true, false, List, Option, Some, None, Ok, Err, if◌then◌else◌}
 use Rattle.std.proofs.Common.{◌∙◌, subst, sym}
+use Rattle.oci_auth.specs.Auth.{unasked}
 use Rattle.oci_auth.specs.Token.{token_of}
+use Rattle.oci_auth.specs.declared.auth.RegistryAuth.{RegistryAuth}
 use Rattle.oci_auth.specs.declared.token.RegistryToken.{RegistryToken}
 use Rattle.oci_auth.specs.declared.token_type.RegistryTokenType.{RegistryTokenType}
 use Rattle.oci_auth.specs.declared.token_type.RegistryTokenType.TheVariants.{Bearer, Basic}
+use Rattle.oci_auth.proofs.Forms.{unasked_bearer}
 use Rattle.oci_transport.specs.Link.{Link}
 use Rattle.oci_transport.specs.declared.message.AnswerHead.{AnswerHead}
 use Rattle.engine_terms.specs.declared.error.OciDistributionError.TheVariants as refusal
@@ -22,6 +25,9 @@ realm_bearer status body token h = by_status (nat_eq status 200) h where
   by_status : (b : Bool) → (if b then decoded body (token_of body) else Err (refusal.AuthenticationFailure body)) ≡ Ok token → IfNoBearer ⊥ token
   by_status true h = by_body body (token_of body) token h
   by_status false h = absurd (cc h)
+
+pub unasked_given : (P : Type 0) (a : RegistryAuth) (token : RegistryTokenType) → unasked a ≡ Some token → IfNoBearer P (Some token)
+unasked_given P a token is = let bearer = unasked_bearer a token is in subst (λ (t : RegistryTokenType). IfNoBearer P (Some t)) (sym bearer.1) tt
 
 pub unless_bearer : {P Q : Type 0} (token : Option RegistryTokenType) → (P → Q) → IfNoBearer P token → IfNoBearer Q token
 unless_bearer None f h = f h

@@ -96,8 +96,8 @@ fn registry_asked<T: Transport>(
     Ok(token)
 }
 
-/// Returns the token that is sent to the registry of an image: that of the credentials, without a request, or else the
-/// one that the registry's challenge requires.
+/// Returns the token that is sent to the registry of an image: the one that needs no request, or else the one that the
+/// registry's challenge requires.
 #[tactic(none)]
 pub fn token_step<T: Transport>(
     alloc: Global,
@@ -110,16 +110,9 @@ pub fn token_step<T: Transport>(
         (T.state transport.old) (T.state transport.new) k k result }
     ensures body_unread { IfOk result (IfNoBearer (LastBodyUnread (T.state transport.old) (T.state transport.new))) }
 {
-    match auth {
-        RegistryAuth::Bearer(_) => {
-            let token = auth.own_token(alloc)?;
-            Ok(token)
-        }
-        RegistryAuth::Basic(_, _) => {
-            let token = registry_asked(alloc, transport, call, auth, op)?;
-            Ok(token)
-        }
-        RegistryAuth::Anonymous => {
+    match auth.unasked(alloc)? {
+        Some(unasked) => Ok(Some(unasked)),
+        None => {
             let token = registry_asked(alloc, transport, call, auth, op)?;
             Ok(token)
         }

@@ -67,14 +67,19 @@ fn tokens_expire_at_these_moments(rt: HostRuntime) {
     }
 }
 
-fn kept(alloc: Global) -> Result<TokenCache, AllocError> {
-    let mut cache = TokenCache::new(alloc, 60);
+fn insert_token(cache: &mut TokenCache, image: &str, moment: u64) -> Result<(), AllocError> {
+    let alloc = cache.alloc();
     let token = Text::new(alloc, "t1")?;
     let bearer = RegistryTokenType::Bearer(RegistryToken::Token { token });
-    let Ok(image) = Reference::parse(alloc, "r.example/app:v1") else {
-        return Ok(cache);
-    };
-    cache.insert(&image, RegistryOperation::Pull, bearer, 1000)?;
+    match Reference::parse(alloc, image) {
+        Ok(image) => cache.insert(&image, RegistryOperation::Pull, bearer, moment),
+        Err(_) => Ok(()),
+    }
+}
+
+fn kept(alloc: Global) -> Result<TokenCache, AllocError> {
+    let mut cache = TokenCache::new(alloc, 60);
+    insert_token(&mut cache, "r.example/app:v1", 1000)?;
     Ok(cache)
 }
 
@@ -112,6 +117,51 @@ fn a_token_is_given_up_to_its_expiration(rt: HostRuntime) {
             1000
         ))
     );
+}
+
+fn gives_for(cache: &TokenCache, image: &str, moment: u64) -> bool {
+    match Reference::parse(cache.alloc(), image) {
+        Ok(image) => gives(cache, &image, RegistryOperation::Pull, moment),
+        Err(_) => false,
+    }
+}
+
+fn latest_two_stay(alloc: Global) -> Result<bool, AllocError> {
+    let mut cache = TokenCache::new(alloc, 60);
+    cache.bound(2);
+    insert_token(&mut cache, "r.example/a:v1", 1000)?;
+    insert_token(&mut cache, "r.example/b:v1", 1000)?;
+    insert_token(&mut cache, "r.example/c:v1", 1000)?;
+    let first = gives_for(&cache, "r.example/a:v1", 1000);
+    let second = gives_for(&cache, "r.example/b:v1", 1000);
+    Ok(!first && second && gives_for(&cache, "r.example/c:v1", 1000))
+}
+
+fn latest_stays_without_room(alloc: Global) -> Result<bool, AllocError> {
+    let mut cache = kept(alloc)?;
+    cache.bound(0);
+    Ok(gives_for(&cache, "r.example/app:v1", 1060))
+}
+
+// The first token has expired when the second one is stored, so it is not returned after the clock went back.
+fn expired_is_dropped(alloc: Global) -> Result<bool, AllocError> {
+    let mut cache = kept(alloc)?;
+    insert_token(&mut cache, "r.example/b:v1", 1061)?;
+    Ok(!gives_for(&cache, "r.example/app:v1", 1060))
+}
+
+fn unexpired_stays(alloc: Global) -> Result<bool, AllocError> {
+    let mut cache = kept(alloc)?;
+    insert_token(&mut cache, "r.example/b:v1", 1060)?;
+    Ok(gives_for(&cache, "r.example/app:v1", 1060))
+}
+
+#[test]
+fn stored_tokens_are_few(rt: HostRuntime) {
+    assert!(rt; holds(latest_two_stay(rt.alloc())));
+    assert!(rt; holds(latest_stays_without_room(rt.alloc())));
+    assert!(rt; holds(expired_is_dropped(rt.alloc())));
+    assert!(rt; holds(unexpired_stays(rt.alloc())));
 }
 
 fn stored_once(alloc: Global) -> Result<bool, AllocError> {

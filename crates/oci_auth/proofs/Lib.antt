@@ -1,3 +1,4 @@
 pub mod Dots
 pub mod Formatters
+pub mod Forms
 pub mod Places

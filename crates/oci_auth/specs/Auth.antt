@@ -15,6 +15,12 @@ own_token Anonymous = None
 own_token (Basic user password) = Some (shown.Basic user password)
 own_token (Bearer token) = Some (shown.Bearer (Token token))
 
+-- the token that is sent to a registry without a request for one: credentials that are a token
+abbrev pub unasked : RegistryAuth → Option RegistryTokenType
+unasked Anonymous = None
+unasked (Basic user password) = None
+unasked (Bearer token) = Some (shown.Bearer (Token token))
+
 -- the value of the `authorization` header (RFC 6750, 2.1, and RFC 7617, 2)
 abbrev pub authorization_of : RegistryTokenType → List ℕ
 authorization_of (shown.Bearer token) = codes "Bearer " ++ token_text token

@@ -1,5 +1,5 @@
 -- The credentials and tokens that a client holds between calls.
-use Rattle.std.specs.Prelude.{List, [], ℕ, is_some, if◌then◌else◌}
+use Rattle.std.specs.Prelude.{List, [], ℕ, None, is_some, if◌then◌else◌}
 use Rattle.std.specs.FinMap as map
 use Rattle.oci_auth.specs.declared.auth.RegistryAuth.{RegistryAuth}
 use Rattle.oci_auth.specs.declared.auth_state.AuthState.{AuthState}
@@ -8,7 +8,7 @@ use Rattle.oci_auth.specs.declared.auth_state.AuthState.{AuthState}
 abbrev pub fresh : ℕ → AuthState
 fresh default = record {
   credentials = map.empty;
-  tokens = record { default_expiration_secs = default; tokens = [] };
+  tokens = record { default_expiration_secs = default; most = None; tokens = [] };
 }
 
 -- stored credentials are never replaced

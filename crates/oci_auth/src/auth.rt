@@ -19,7 +19,7 @@ pub enum RegistryAuth {
 }
 
 impl RegistryAuth {
-    ghost use Rattle.oci_auth.specs.Auth.{own_token};
+    ghost use Rattle.oci_auth.specs.Auth.{own_token, unasked};
 
     /// Returns the token that can be built from the credentials without a request.
     pub fn own_token(&self, alloc: Global) -> Result<Option<RegistryTokenType>, AllocError>
@@ -35,6 +35,17 @@ impl RegistryAuth {
                 let token = token.copy(alloc)?;
                 Ok(Some(RegistryTokenType::Bearer(RegistryToken::Token { token })))
             }
+        }
+    }
+
+    /// Returns the token that is sent to a registry without a request for one, if the credentials are a token.
+    pub fn unasked(&self, alloc: Global) -> Result<Option<RegistryTokenType>, AllocError>
+        ensures { IfOk result (λ token. token ≡ unasked self.now) }
+    {
+        match self {
+            RegistryAuth::Anonymous => Ok(None),
+            RegistryAuth::Basic(_, _) => Ok(None),
+            RegistryAuth::Bearer(_) => self.own_token(alloc),
         }
     }
 }

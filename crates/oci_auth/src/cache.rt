@@ -1,5 +1,5 @@
 // The tokens that a client stores.
-ghost use Rattle.std.specs.Prelude.{◌≡◌, [], OnOk, OnErr, IfOk};
+ghost use Rattle.std.specs.Prelude.{◌≡◌, [], None, OnOk, OnErr, IfOk};
 ghost use Rattle.oci_auth.specs.Cache.{key_of, kept_until};
 
 use crate::expiration::bearer_token_cache_expiration;
@@ -14,6 +14,8 @@ use std::alloc::{AllocError, Global};
 pub struct TokenCache {
     /// The life, in seconds, of a token without an expiration.
     pub default_expiration_secs: u64,
+    /// The greatest number of tokens, if there is one.
+    most: Option<u64>,
     tokens: KeptTokens,
 }
 
@@ -41,14 +43,16 @@ fn kept_until(
 }
 
 impl TokenCache {
-    ghost use Rattle.oci_auth.specs.Cache.{with_token, token_at, GivesFrom};
+    ghost use Rattle.oci_auth.specs.Kept.{AreWithin};
+    ghost use Rattle.oci_auth.specs.Cache.{with_token, bounded, token_at, GivesFrom};
 
-    /// Returns an empty cache.
+    /// Returns an empty cache, which has no bound.
     pub fn new(alloc: Global, default_expiration_secs: u64) -> TokenCache
-        ensures { result ≡ record { default_expiration_secs = default_expiration_secs; tokens = [] } }
+        ensures { result ≡ record { default_expiration_secs = default_expiration_secs; most = None; tokens = [] } }
     {
         TokenCache {
             default_expiration_secs,
+            most: None,
             tokens: KeptTokens::new(alloc),
         }
     }
@@ -58,8 +62,19 @@ impl TokenCache {
         self.tokens.alloc()
     }
 
+    /// Stores at most `most` tokens from now on, but always the latest. Drops those that were stored first until the
+    /// others are as few.
+    pub fn bound(&mut self, most: u64)
+        ensures exact { self.new ≡ bounded most self.old }
+        ensures few { AreWithin self.new.most self.new.tokens }
+    {
+        self.most = Some(most);
+        self.tokens.cut(self.most);
+    }
+
     /// Stores a token that was obtained at this moment, in seconds since 1970, replacing the one that is stored for the
-    /// same registry, repository and operation. Does nothing if its expiration is unknown.
+    /// same registry, repository and operation. Drops those that have expired at this moment and, if the bound is
+    /// exceeded, those that were stored first. Does nothing if the token's expiration is unknown.
     pub fn insert(
         &mut self,
         reference: &Reference,
@@ -69,8 +84,9 @@ impl TokenCache {
     ) -> Result<(), AllocError>
         ensures ok { OnOk result (self.new ≡ with_token self.old (key_of reference.now op) token moment) }
         ensures err { OnErr result (self.new ≡ self.old) }
-        ensures last { OnOk result (GivesFrom self.old self.new (key_of reference.now op) token
+        ensures last { OnOk result (GivesFrom self.old self.new (key_of reference.now op) token moment
             (kept_until token self.old.default_expiration_secs moment)) }
+        ensures few { AreWithin self.old.most self.old.tokens → AreWithin self.new.most self.new.tokens }
     {
         let alloc = self.tokens.alloc();
         let Some(expiration) = kept_until(alloc, &token, self.default_expiration_secs, moment)?
@@ -79,13 +95,14 @@ impl TokenCache {
         };
         let registry = Text::new(alloc, reference.resolve_registry())?;
         let repository = Text::new(alloc, reference.repository())?;
-        self.tokens.insert(KeptToken {
+        let kept = KeptToken {
             registry,
             repository,
             operation: op,
             token,
             expiration,
-        })?;
+        };
+        self.tokens.insert(kept, moment, self.most)?;
         Ok(())
     }
 

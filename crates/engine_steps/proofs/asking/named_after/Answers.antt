@@ -20,7 +20,7 @@ pub returns-in-Ok-read_body : goal.returns-in-Ok-read_body
 returns-in-Ok-read_body g c = record { run = λ k. rw c.with_body.ensures (named_answered _ _ _ _ _ _ _ _ _ _ k c.in-Ok.ensures.reached (c.in_ok-digest.ensures ∙ ap Ok c.in-Some.is) c.read_body.ensures.count c.read_body.ensures.told c.read_body.ensures.steady c.in-Ok-read_body.ensures.within c.in-Ok-read_body.ensures.whole c.in-Ok-read_body.ensures.unbroken); body_unread = tt }
 
 pub returns-in-Err-TransportFault : goal.returns-in-Err-TransportFault
-returns-in-Err-TransportFault g c = record { run = λ k. named_failed _ _ _ _ _ _ _ _ k c.in-Ok.ensures.reached c.read_body.ensures.count c.read_body.ensures.told c.read_body.ensures.steady (c.in-Err-TransportFault.ensures.fault (rw c.in-Err-TransportFault.field-0-is refl)); body_unread = tt }
+returns-in-Err-TransportFault g c = record { run = λ k. named_failed _ _ _ _ _ _ _ _ _ k c.in-Ok.ensures.reached (c.in_ok-digest.ensures ∙ ap Ok c.in-Some.is) c.read_body.ensures.count c.read_body.ensures.told c.read_body.ensures.steady (c.in-Err-TransportFault.ensures.fault (rw c.in-Err-TransportFault.field-0-is refl)); body_unread = tt }
 
 pub returns-in-Err-BodyTooLong : goal.returns-in-Err-BodyTooLong
 returns-in-Err-BodyTooLong g c = record { run = λ k. named_long _ _ _ _ _ _ _ _ _ k c.in-Ok.ensures.reached (c.in_ok-digest.ensures ∙ ap Ok c.in-Some.is) c.read_body.ensures.count c.read_body.ensures.told c.read_body.ensures.steady (c.in-Err-BodyTooLong.ensures.long (rw c.in-Err-BodyTooLong.field-0-is refl)); body_unread = tt }

@@ -1,0 +1,7 @@
+use Rattle.std.proofs.Common.{rules, ◌∙◌}
+use Rattle.std.proofs.lemmas.Fn.{filter_same}
+use Rattle.oci_auth.proofs.Places.{expired_dropped}
+use Rattle.oci_auth.proofs.kept.drop_expired.Goals as goal
+
+pub returns-clause-others : goal.returns-clause-others
+returns-clause-others c = filter_same _ _ _ (λ x b f' k. search rules) _ _ c.retain.ensures.filtered ∙ expired_dropped c.args.moment c.args.tokens.now.items c.requires
