@@ -3,7 +3,7 @@ use Rattle.std.specs.Prelude.{ℕ, Bool, true, false, List, Option, Some, None, 
 use Rattle.oci_digests.specs.Names.{digest_text}
 use Rattle.oci_digests.specs.Checks.{header_digest as digest_in, and_then, named_algorithm}
 use Rattle.oci_transport.specs.Headers.{first_of, digest_header}
-use Rattle.oci_digests.specs.declared.digester.Algorithm.{Algorithm}
+use Rattle.oci_names.specs.declared.algorithm.Algorithm.{Algorithm}
 use Rattle.oci_digests.specs.declared.error.DigestError.{DigestError}
 use Rattle.oci_digests.specs.declared.error.DigestError.TheVariants.{VerificationError}
 use Rattle.oci_transport.specs.declared.message.AnswerHead.{AnswerHead}
@@ -12,7 +12,7 @@ use Rattle.engine_answers.specs.declared.blobs.Plan.{Plan}
 use Rattle.engine_answers.specs.declared.blobs.Plan.TheVariants.{Refuse, Judge, Pour}
 use Rattle.engine_terms.specs.declared.error.OciDistributionError.{OciDistributionError}
 use Rattle.engine_terms.specs.declared.error.OciDistributionError.TheVariants as refusal
-use Rattle.engine_terms.specs.Error.{◌>>◌}
+use Rattle.json_values.specs.Refusals.{◌>>◌}
 use Rattle.engine_answers.specs.Answers.{is_success}
 
 -- a digest text with its algorithm

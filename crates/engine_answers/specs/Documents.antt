@@ -13,7 +13,7 @@ use Rattle.oci_manifests.specs.declared.versioned.Versioned.{Versioned}
 use Rattle.oci_manifests.specs.declared.document.OciManifest.{OciManifest}
 use Rattle.engine_terms.specs.declared.error.OciDistributionError.{OciDistributionError}
 use Rattle.engine_terms.specs.declared.error.OciDistributionError.TheVariants as refusal
-use Rattle.engine_terms.specs.Error.{◌>>◌}
+use Rattle.json_values.specs.Refusals.{◌>>◌}
 
 -- data without floats
 abbrev pub plain_of : Option Data → Option Data

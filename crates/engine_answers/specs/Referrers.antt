@@ -14,7 +14,7 @@ use Rattle.engine_terms.specs.declared.error.GenericCause.TheVariants.{NoDigest}
 use Rattle.engine_terms.specs.declared.error.SpecViolation.TheVariants.{ReferrersTag}
 use Rattle.engine_terms.specs.declared.error.OciDistributionError.{OciDistributionError}
 use Rattle.engine_terms.specs.declared.error.OciDistributionError.TheVariants as refusal
-use Rattle.engine_terms.specs.Error.{◌>>=◌}
+use Rattle.json_values.specs.Refusals.{◌>>=◌}
 use Rattle.engine_answers.specs.Answers.{accepted}
 use Rattle.engine_answers.specs.Documents.{plain_of, tables_read}
 

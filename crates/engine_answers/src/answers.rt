@@ -1,12 +1,13 @@
 // Interprets a whole response.
 ghost use Rattle.std.specs.Prelude.{◌≡◌, IfOk, Result, Some, option_copied};
 ghost use Rattle.oci_digests.specs.Checks.{header_digest as digest_in};
-ghost use Rattle.oci_digests.specs.Error.{Matches as DigestSays};
+ghost use Rattle.json_values.specs.Refusals.{Matches, MatchesError};
+ghost use Rattle.oci_digests.specs.Error.{is_memory as digest_is_memory};
 ghost use Rattle.oci_digests.specs.declared.error.DigestError.{DigestError};
 ghost use Rattle.oci_transport.specs.Headers.{first_of, digest_header};
 ghost use Rattle.oci_digests.specs.Checks.{parts_of};
 ghost use Rattle.oci_names.specs.Reference.{digest_of};
-ghost use Rattle.engine_terms.specs.Error.{Matches, MatchesError};
+ghost use Rattle.engine_terms.specs.Error.{is_memory};
 ghost use Rattle.engine_answers.specs.Answers.{is_success, is_error, is_client_error, envelope_in};
 ghost use Rattle.engine_answers.specs.Answers.{by_envelope, refused_answer, accepted};
 ghost use Rattle.engine_answers.specs.Answers.{or_digest_error, header_digest, body_digest};
@@ -79,7 +80,7 @@ fn by_envelope(url: Text, answer: Answer, envelope: Option<OciEnvelope>) -> OciD
 
 /// Returns why a response is refused that has another status than expected.
 pub fn refused_answer(alloc: Global, expected: u16, got: Got) -> OciDistributionError
-    ensures { MatchesError result (refused_answer expected got.url got.answer) }
+    ensures { MatchesError is_memory result (refused_answer expected got.url got.answer) }
 {
     let Got { url, answer } = got;
     if answer.status == 401 {
@@ -107,7 +108,7 @@ pub fn refused_answer(alloc: Global, expected: u16, got: Got) -> OciDistribution
 
 /// Returns the response, if it has the expected status.
 pub fn accepted(alloc: Global, expected: u16, got: Got) -> Result<Answer, OciDistributionError>
-    ensures { Matches result (accepted expected got.url got.answer) }
+    ensures { Matches is_memory result (accepted expected got.url got.answer) }
 {
     if got.answer.status == expected {
         return Ok(got.answer);
@@ -117,7 +118,8 @@ pub fn accepted(alloc: Global, expected: u16, got: Got) -> Result<Answer, OciDis
 
 /// Converts a digest error to the client's.
 pub fn of_digest<A: Drop>(checked: Result<A, DigestError>) -> Result<A, OciDistributionError>
-    ensures { (said : Result A DigestError) → DigestSays checked said → Matches result (or_digest_error said) }
+    ensures { (said : Result A DigestError) → Matches digest_is_memory checked said
+        → Matches is_memory result (or_digest_error said) }
 {
     match checked {
         Ok(answer) => Ok(answer),
@@ -132,14 +134,14 @@ pub fn of_digest<A: Drop>(checked: Result<A, DigestError>) -> Result<A, OciDistr
 
 // Returns the digest that the header names, if it names one.
 pub(crate) fn header_in(alloc: Global, headers: &Headers) -> Result<Option<Text>, DigestError>
-    ensures { DigestSays result (digest_in (first_of digest_header headers.now)) }
+    ensures { Matches digest_is_memory result (digest_in (first_of digest_header headers.now)) }
 {
     digest_header_value(alloc, headers.first(DIGEST_HEADER))
 }
 
 /// Returns the digest that the header `docker-content-digest` names, if it names one.
 pub fn header_digest(alloc: Global, headers: &Headers) -> Result<Option<Text>, OciDistributionError>
-    ensures { Matches result (header_digest headers.now) }
+    ensures { Matches is_memory result (header_digest headers.now) }
 {
     let digest = of_digest(header_in(alloc, headers))?;
     Ok(digest)
@@ -151,7 +153,8 @@ fn body_digest(
     header: Option<&str>,
     reference: Option<&str>,
 ) -> Result<Text, OciDistributionError>
-    ensures { Matches result (body_digest body.now (option_copied header.entry) (option_copied reference.entry)) }
+    ensures { Matches is_memory result
+        (body_digest body.now (option_copied header.entry) (option_copied reference.entry)) }
 {
     let digest = validate_digest(alloc, body.as_slice(), header, reference);
     let digest = of_digest(digest)?;
@@ -164,7 +167,7 @@ fn answer_digest(
     image: &Reference,
     answer: &Answer,
 ) -> Result<Text, OciDistributionError>
-    ensures { Matches result (answer_digest image.now answer.now) }
+    ensures { Matches is_memory result (answer_digest image.now answer.now) }
 {
     let header = header_digest(alloc, &answer.headers)?;
     let header = header.as_ref().map(|text| text.as_str());
@@ -177,7 +180,7 @@ pub fn document_in(
     image: &Reference,
     got: Got,
 ) -> Result<(Blob, Text), OciDistributionError>
-    ensures { Matches result (document_in image.now got) }
+    ensures { Matches is_memory result (document_in image.now got) }
 {
     let answer = accepted(alloc, 200, got)?;
     let digest = answer_digest(alloc, image, &answer)?;
@@ -185,7 +188,7 @@ pub fn document_in(
 }
 
 fn agreed(alloc: Global, digest: Text, own: &str) -> Result<Text, DigestError>
-    ensures { DigestSays result (agreed digest own.now (parts_of digest) (parts_of own.now)) }
+    ensures { Matches digest_is_memory result (agreed digest own.now (parts_of digest) (parts_of own.now)) }
 {
     let given = Digest::new(digest.as_str())?;
     let named = Digest::new(own)?;
@@ -205,7 +208,7 @@ pub fn fits_reference(
     digest: Text,
     image: &Reference,
 ) -> Result<Text, OciDistributionError>
-    ensures { Matches result (fits_reference digest (digest_of image.now)) }
+    ensures { Matches is_memory result (fits_reference digest (digest_of image.now)) }
 {
     match image.digest() {
         Some(own) => {

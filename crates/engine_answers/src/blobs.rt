@@ -1,9 +1,10 @@
 // Decides how the response to a blob's request is read.
 ghost use Rattle.std.specs.Prelude.{◌≡◌, List, ℕ, IfOk, []};
-ghost use Rattle.oci_digests.specs.Error.{Matches as DigestSays};
+ghost use Rattle.json_values.specs.Refusals.{Matches};
+ghost use Rattle.oci_digests.specs.Error.{is_memory as digest_is_memory};
 ghost use Rattle.oci_digests.specs.Names.{digest_text};
 ghost use Rattle.oci_digests.specs.Both.{BothHold, given_text, texts_of};
-ghost use Rattle.engine_terms.specs.Error.{Matches};
+ghost use Rattle.engine_terms.specs.Error.{is_memory};
 ghost use Rattle.engine_answers.specs.Blobs.{digest_expected, given_expected, pouring, plan_by};
 ghost use Rattle.engine_answers.specs.Blobs.{plan_in, plan_of, compared, given_compared};
 ghost use Rattle.engine_answers.specs.Blobs.{both_compared, given_algorithm};
@@ -35,7 +36,7 @@ pub enum Plan {
 
 /// Returns a digest text with its algorithm, or an error if it is malformed or its algorithm is unknown.
 pub fn digest_expected(alloc: Global, text: &str) -> Result<Expected, DigestError>
-    ensures { DigestSays result (digest_expected text.now) }
+    ensures { Matches digest_is_memory result (digest_expected text.now) }
 {
     let algorithm = named_algorithm(alloc, text)?;
     let text = Text::new(alloc, text)?;
@@ -43,7 +44,7 @@ pub fn digest_expected(alloc: Global, text: &str) -> Result<Expected, DigestErro
 }
 
 fn given_expected(alloc: Global, header: &Option<Text>) -> Result<Option<Expected>, DigestError>
-    ensures { DigestSays result (given_expected header.now) }
+    ensures { Matches digest_is_memory result (given_expected header.now) }
 {
     match header {
         Some(text) => {
@@ -69,7 +70,7 @@ fn plan_by(
     digest: &str,
     header: &Option<Text>,
 ) -> Result<Plan, DigestError>
-    ensures { DigestSays result (plan_by good digest.now header.now) }
+    ensures { Matches digest_is_memory result (plan_by good digest.now header.now) }
 {
     let given = given_expected(alloc, header)?;
     let own = digest_expected(alloc, digest)?;
@@ -77,7 +78,7 @@ fn plan_by(
 }
 
 fn plan_in(alloc: Global, digest: &str, head: &AnswerHead) -> Result<Plan, DigestError>
-    ensures { DigestSays result (plan_in digest.now head.now) }
+    ensures { Matches digest_is_memory result (plan_in digest.now head.now) }
 {
     let header = header_in(alloc, &head.headers)?;
     let plan = plan_by(alloc, is_success(head.status), digest, &header)?;
@@ -120,7 +121,7 @@ pub fn digesters(given: &Option<Expected>, own: &Expected) -> Digesters
 // Checks that the digest of the bytes is the expected one.
 fn compared(alloc: Global, actual: Text, expected: &Expected) -> Result<(), OciDistributionError>
     ensures { (m : List ℕ) → actual ≡ digest_text expected.now.algorithm m
-        → Matches result (compared expected.now m) }
+        → Matches is_memory result (compared expected.now m) }
 {
     if expected.text.as_str() == actual.as_str() {
         return Ok(());
@@ -135,7 +136,7 @@ fn given_compared(
     given: &Option<Expected>,
 ) -> Result<(), OciDistributionError>
     ensures { (m : List ℕ) → actual ≡ given_text (given_algorithm given.now) m
-        → Matches result (given_compared given.now m) }
+        → Matches is_memory result (given_compared given.now m) }
 {
     match given {
         Some(given) => match actual {
@@ -157,7 +158,7 @@ pub fn both_compared(
     own: &Expected,
 ) -> Result<(), OciDistributionError>
     ensures { (m : List ℕ) → BothHold digesters.old (given_algorithm given.now) own.now.algorithm m
-        → Matches result (both_compared given.now own.now m) }
+        → Matches is_memory result (both_compared given.now own.now m) }
 {
     let texts = digesters.texts(alloc)?;
     given_compared(alloc, texts.given, given)?;

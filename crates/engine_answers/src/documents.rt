@@ -1,7 +1,8 @@
 // Parses documents.
 ghost use Rattle.std.specs.Prelude.{◌≡◌, IfOk, Some};
 ghost use Rattle.serde_json.specs.View.{view};
-ghost use Rattle.engine_terms.specs.Error.{Matches};
+ghost use Rattle.json_values.specs.Refusals.{Matches};
+ghost use Rattle.engine_terms.specs.Error.{is_memory};
 ghost use Rattle.engine_answers.specs.Documents.{plain_of, type_checked, version_checked};
 ghost use Rattle.engine_answers.specs.Documents.{versioned_in, tables_read, document_from};
 ghost use Rattle.engine_answers.specs.Documents.{document_read};
@@ -28,7 +29,7 @@ fn versioned_in(alloc: Global, json: &Option<Json>) -> Result<Option<Versioned>,
 }
 
 fn type_checked(kind: Option<Text>) -> Result<(), OciDistributionError>
-    ensures { Matches result (type_checked kind) }
+    ensures { Matches is_memory result (type_checked kind) }
 {
     match kind {
         Some(kind) => {
@@ -47,7 +48,7 @@ fn version_checked(
     body: &Blob,
     versioned: Option<Versioned>,
 ) -> Result<(), OciDistributionError>
-    ensures { Matches result (version_checked body.now versioned) }
+    ensures { Matches is_memory result (version_checked body.now versioned) }
 {
     match versioned {
         Some(versioned) => {
@@ -70,7 +71,7 @@ pub(crate) fn tables_read(
     body: &Blob,
     json: &Option<Json>,
 ) -> Result<OciManifest, OciDistributionError>
-    ensures { Matches result (tables_read body.now (plain_of json.now)) }
+    ensures { Matches is_memory result (tables_read body.now (plain_of json.now)) }
 {
     let Some(json) = json else {
         let body = body.copy(alloc)?;
@@ -99,7 +100,7 @@ fn document_from(
     body: &Blob,
     json: &Option<Json>,
 ) -> Result<OciManifest, OciDistributionError>
-    ensures { Matches result (document_from body.now json.now) }
+    ensures { Matches is_memory result (document_from body.now json.now) }
 {
     let versioned = versioned_in(alloc, json)?;
     version_checked(alloc, body, versioned)?;
@@ -110,7 +111,7 @@ fn document_from(
 /// Parses a manifest or index: a document of schema version 2, of no media type or one of the four of manifests and
 /// indexes, which parses as one of the two and not as both.
 pub fn read_document(alloc: Global, body: &Blob) -> Result<OciManifest, OciDistributionError>
-    ensures { Matches result (document_read body.now) }
+    ensures { Matches is_memory result (document_read body.now) }
 {
     let json = read_json(alloc, body.as_slice())?;
     let document = document_from(alloc, body, &json)?;

@@ -1,7 +1,8 @@
 // Selects the image of an index.
 ghost use Rattle.std.specs.Prelude.{◌≡◌, IfOk};
 ghost use Rattle.oci_descriptors.specs.Promise.{lists};
-ghost use Rattle.engine_terms.specs.Error.{Matches};
+ghost use Rattle.json_values.specs.Refusals.{Matches};
+ghost use Rattle.engine_terms.specs.Error.{is_memory};
 ghost use Rattle.engine_answers.specs.Index.{entry_named, entry_found, entry_manifest};
 ghost use Rattle.engine_answers.specs.Index.{entry_reference, config_text};
 
@@ -26,7 +27,7 @@ fn entry_named(
     manifests: &[ImageIndexEntry],
     answer: Option<Text>,
 ) -> Result<Text, OciDistributionError>
-    ensures { Matches result (entry_named manifests.now answer) }
+    ensures { Matches is_memory result (entry_named manifests.now answer) }
 {
     let Some(digest) = answer else {
         let none = Text::new(alloc, "")?;
@@ -44,7 +45,7 @@ pub fn entry_found(
     resolver: &Option<PlatformResolver>,
     manifests: &[ImageIndexEntry],
 ) -> Result<Text, OciDistributionError>
-    ensures { Matches result (entry_found resolver.now manifests.now) }
+    ensures { Matches is_memory result (entry_found resolver.now manifests.now) }
 {
     match resolver {
         Some(resolver) => {
@@ -62,7 +63,7 @@ pub fn entry_manifest(
     digest: &str,
     document: OciManifest,
 ) -> Result<OciImageManifest, OciDistributionError>
-    ensures { Matches result (entry_manifest digest.now document) }
+    ensures { Matches is_memory result (entry_manifest digest.now document) }
 {
     match document {
         OciManifest::Image(manifest) => Ok(manifest),
@@ -89,7 +90,7 @@ pub fn entry_reference(
 /// Returns a configuration as text.
 #[tactic(auto, using(crate::proofs::ConfigTexts::text_is, crate::proofs::ConfigTexts::text_is_not))]
 pub fn config_text(alloc: Global, content: &Blob) -> Result<Text, OciDistributionError>
-    ensures { Matches result (config_text content.now) }
+    ensures { Matches is_memory result (config_text content.now) }
 {
     match str::from_utf8(content.as_slice()) {
         Ok(text) => {

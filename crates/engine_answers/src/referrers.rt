@@ -1,6 +1,7 @@
 // The referrers of a manifest.
 ghost use Rattle.std.specs.Prelude.{◌≡◌, IfOk, filter, option_copied, string_bytes};
-ghost use Rattle.engine_terms.specs.Error.{Matches};
+ghost use Rattle.json_values.specs.Refusals.{Matches};
+ghost use Rattle.engine_terms.specs.Error.{is_memory};
 ghost use Rattle.engine_answers.specs.Referrers.{index_in, index_read, referrers_in};
 ghost use Rattle.engine_answers.specs.Referrers.{referrers_tag, fallback_reference, no_referrers};
 ghost use Rattle.engine_answers.specs.Referrers.{is_absent, is_of_type, restricted, tag_index};
@@ -16,7 +17,7 @@ use oci_names::Reference;
 use std::alloc::{AllocError, Global};
 
 fn index_in(body: Blob, document: OciManifest) -> Result<OciImageIndex, OciDistributionError>
-    ensures { Matches result (index_in body document) }
+    ensures { Matches is_memory result (index_in body document) }
 {
     match document {
         OciManifest::ImageIndex(index) => Ok(index),
@@ -26,7 +27,7 @@ fn index_in(body: Blob, document: OciManifest) -> Result<OciImageIndex, OciDistr
 
 // Parses the index.
 fn read_index(alloc: Global, body: Blob) -> Result<OciImageIndex, OciDistributionError>
-    ensures { Matches result (index_read body) }
+    ensures { Matches is_memory result (index_read body) }
 {
     let json = read_json(alloc, body.as_slice())?;
     let document = tables_read(alloc, &body, &json)?;
@@ -37,7 +38,7 @@ fn read_index(alloc: Global, body: Blob) -> Result<OciImageIndex, OciDistributio
 /// Returns the index in a response of status 200. A manifest is refused as `ManifestParsingError`, a document that
 /// parses as both as `AmbiguousManifest`.
 pub fn referrers_in(alloc: Global, got: Got) -> Result<OciImageIndex, OciDistributionError>
-    ensures { Matches result (referrers_in got) }
+    ensures { Matches is_memory result (referrers_in got) }
 {
     let answer = accepted(alloc, 200, got)?;
     let index = read_index(alloc, answer.body)?;
@@ -148,7 +149,7 @@ fn tag_index(
     artifact_type: Option<&str>,
     document: OciManifest,
 ) -> Result<OciImageIndex, OciDistributionError>
-    ensures { Matches result (tag_index digest.now (option_copied artifact_type.entry) document) }
+    ensures { Matches is_memory result (tag_index digest.now (option_copied artifact_type.entry) document) }
 {
     match document {
         OciManifest::ImageIndex(index) => {
@@ -170,7 +171,7 @@ pub fn tagged_index(
     artifact_type: Option<&str>,
     answer: Result<(OciManifest, Text), OciDistributionError>,
 ) -> Result<OciImageIndex, OciDistributionError>
-    ensures { Matches result (tagged_index digest.now (option_copied artifact_type.entry) answer) }
+    ensures { Matches is_memory result (tagged_index digest.now (option_copied artifact_type.entry) answer) }
 {
     match answer {
         Ok((document, _)) => {

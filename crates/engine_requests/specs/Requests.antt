@@ -1,10 +1,10 @@
 -- What a request contains (OCI distribution specification, "Pull").
-use Rattle.std.specs.Prelude.{ℕ, flat_map, List, [], ◌∷◌, ◌++◌, Option, Some, None, Result, Ok, Err, codes, nat_lt}
-use Rattle.std.specs.Prelude.{◌&&◌, if◌then◌else◌}
+use Rattle.std.specs.Prelude.{ℕ, flat_map, List, [], ◌∷◌, ◌++◌, Option, Some, None, Result, Ok, codes, ok_or}
 use Rattle.url.specs.Parts.{Parts, serialize}
 use Rattle.oci_auth.specs.Auth.{authorization_of}
 use Rattle.oci_auth.specs.declared.token_type.RegistryTokenType.{RegistryTokenType}
-use Rattle.oci_transport.specs.Headers.{Fields, added, held, is_header_value}
+use Rattle.oci_transport.specs.Headers as fields
+use Rattle.oci_transport.specs.Headers.{Fields}
 use Rattle.std.specs.FinMap as map
 use Rattle.oci_transport.specs.declared.message.Request.{Request}
 use Rattle.oci_transport.specs.declared.message.Method.{Method}
@@ -12,7 +12,7 @@ use Rattle.engine_terms.specs.declared.settings.Settings.{Settings}
 use Rattle.engine_terms.specs.declared.error.GenericCause.TheVariants.{HeaderText}
 use Rattle.engine_terms.specs.declared.error.OciDistributionError.{OciDistributionError}
 use Rattle.engine_terms.specs.declared.error.OciDistributionError.TheVariants as refusal
-use Rattle.engine_terms.specs.Error.{◌>>=◌}
+use Rattle.json_values.specs.Refusals.{◌>>=◌}
 
 -- one more type in a header
 abbrev pub behind : List ℕ → List ℕ
@@ -30,11 +30,10 @@ manifest_types = listed (
     ∷ codes "application/vnd.oci.image.manifest.v1+json"
     ∷ codes "application/vnd.oci.image.index.v1+json" ∷ [])
 
--- a header is added if its value is a valid header value (RFC 9110, 5.5)
+-- a header is added, or the request is refused
 abbrev pub with_header : Fields → List ℕ → List ℕ → Result Fields OciDistributionError
 with_header headers name value =
-    if is_header_value value && nat_lt (held headers) 1000 then Ok (added headers name value)
-    else Err (refusal.GenericError HeaderText)
+    ok_or (fields.with_header headers name value) (refusal.GenericError HeaderText)
 
 abbrev pub with_accept : Option (List ℕ) → Fields → Result Fields OciDistributionError
 with_accept None headers = Ok headers

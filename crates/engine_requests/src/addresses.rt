@@ -1,6 +1,7 @@
 // Builds the URLs of requests.
 ghost use Rattle.std.specs.Prelude.{◌≡◌, ◌++◌, IfOk, OnOk, OnErr, option_copied};
-ghost use Rattle.engine_terms.specs.Error.{Matches};
+ghost use Rattle.json_values.specs.Refusals.{Matches};
+ghost use Rattle.engine_terms.specs.Error.{is_memory};
 ghost use Rattle.engine_requests.specs.Addresses.{registry_text, base_text, manifest_name};
 ghost use Rattle.engine_requests.specs.Addresses.{mirrored, manifest_text, blob_text, uploads_text, url_read};
 ghost use Rattle.oci_names.specs.Reference.{tag_of, digest_of, namespace_of};
@@ -104,7 +105,7 @@ fn uploads_text(alloc: Global, settings: &Settings, image: &Reference) -> Result
 
 /// Parses the URL, or returns `UrlParseError` if it is malformed.
 pub fn read_url(alloc: Global, text: Text) -> Result<Url, OciDistributionError>
-    ensures { Matches result (url_read text) }
+    ensures { Matches is_memory result (url_read text) }
 {
     match request_url(alloc, text.as_str()) {
         Ok(url) => Ok(url),
@@ -119,7 +120,7 @@ pub fn registry_address(
     settings: &Settings,
     image: &Reference,
 ) -> Result<Url, OciDistributionError>
-    ensures { Matches result (url_read (registry_text settings.now image.now)) }
+    ensures { Matches is_memory result (url_read (registry_text settings.now image.now)) }
 {
     let text = registry_text(alloc, settings, image)?;
     let url = read_url(alloc, text)?;
@@ -132,7 +133,7 @@ pub fn base_url(
     settings: &Settings,
     image: &Reference,
 ) -> Result<Url, OciDistributionError>
-    ensures { Matches result (url_read (base_text settings.now image.now)) }
+    ensures { Matches is_memory result (url_read (base_text settings.now image.now)) }
 {
     let text = base_text(alloc, settings, image)?;
     let url = read_url(alloc, text)?;
@@ -145,7 +146,7 @@ pub fn manifest_url(
     settings: &Settings,
     image: &Reference,
 ) -> Result<Url, OciDistributionError>
-    ensures { Matches result (url_read (manifest_text settings.now image.now)) }
+    ensures { Matches is_memory result (url_read (manifest_text settings.now image.now)) }
 {
     let text = manifest_text(alloc, settings, image)?;
     let url = read_url(alloc, text)?;
@@ -159,7 +160,7 @@ pub fn blob_url(
     image: &Reference,
     digest: &str,
 ) -> Result<Url, OciDistributionError>
-    ensures { Matches result (url_read (blob_text settings.now image.now digest.now)) }
+    ensures { Matches is_memory result (url_read (blob_text settings.now image.now digest.now)) }
 {
     let text = blob_text(alloc, settings, image, digest)?;
     let url = read_url(alloc, text)?;
@@ -172,7 +173,7 @@ pub fn uploads_url(
     settings: &Settings,
     image: &Reference,
 ) -> Result<Url, OciDistributionError>
-    ensures { Matches result (url_read (uploads_text settings.now image.now)) }
+    ensures { Matches is_memory result (url_read (uploads_text settings.now image.now)) }
 {
     let text = uploads_text(alloc, settings, image)?;
     let url = read_url(alloc, text)?;

@@ -1,7 +1,8 @@
 // Where the referrers of a manifest are listed.
 ghost use Rattle.std.specs.Prelude.{◌≡◌, IfOk, option_copied};
 ghost use Rattle.oci_names.specs.Reference.{digest_of};
-ghost use Rattle.engine_terms.specs.Error.{Matches};
+ghost use Rattle.json_values.specs.Refusals.{Matches};
+ghost use Rattle.engine_terms.specs.Error.{is_memory};
 ghost use Rattle.engine_requests.specs.ReferrerLists.{digest_given, referrers_text, with_artifact_type, referrers_url};
 
 use crate::addresses::{base_text, read_url};
@@ -14,7 +15,7 @@ use url::Url;
 
 /// Returns the digest of the reference, whose referrers are requested, or `NoDigest`.
 pub fn digest_given(alloc: Global, image: &Reference) -> Result<Text, OciDistributionError>
-    ensures { Matches result (digest_given (digest_of image.now)) }
+    ensures { Matches is_memory result (digest_given (digest_of image.now)) }
 {
     let Some(digest) = image.digest() else {
         return Err(OciDistributionError::GenericError(GenericCause::NoDigest));
@@ -58,7 +59,8 @@ pub fn referrers_url(
     digest: &str,
     artifact_type: Option<&str>,
 ) -> Result<Url, OciDistributionError>
-    ensures { Matches result (referrers_url settings.now image.now digest.now (option_copied artifact_type.entry)) }
+    ensures { Matches is_memory result
+        (referrers_url settings.now image.now digest.now (option_copied artifact_type.entry)) }
 {
     let text = referrers_text(alloc, settings, image, digest)?;
     let url = read_url(alloc, text)?;

@@ -1,14 +1,15 @@
 // Builds requests without a body.
 ghost use Rattle.std.specs.Prelude.{◌≡◌, ◌++◌, flat_map, IfOk, OnOk, IsTrue, option_copied, Ok};
 ghost use Rattle.http_header.specs.FieldName.{is_header_name};
-ghost use Rattle.engine_terms.specs.Error.{Matches};
+ghost use Rattle.json_values.specs.Refusals.{Matches};
+ghost use Rattle.engine_terms.specs.Error.{is_memory};
 ghost use Rattle.engine_requests.specs.Requests.{behind, listed, with_header, with_accept};
 ghost use Rattle.engine_requests.specs.Requests.{with_token, headers_of, request_of};
 
 use engine_terms::{GenericCause, OciDistributionError, Settings};
 use json_values::{Blob, Copied, Text};
 use oci_auth::RegistryTokenType;
-use oci_transport::{HeaderError, Headers, Method, Request};
+use oci_transport::{Headers, Method, Request};
 use std::alloc::{AllocError, Global};
 use url::Url;
 
@@ -44,28 +45,21 @@ pub fn listed(alloc: Global, types: &[Text]) -> Result<Text, AllocError>
 /// Returns the headers with one more field, or `GenericError(HeaderText)` if the value is not a valid header value (RFC
 /// 9110, 5.5) or there are already 1000 fields.
 pub fn with_header(
-    mut headers: Headers,
+    headers: Headers,
     name: &str,
     value: &str,
 ) -> Result<Headers, OciDistributionError>
     requires { IsTrue (is_header_name name.now) }
-    ensures { Matches result (with_header headers name.now value.now) }
+    ensures { Matches is_memory result (with_header headers name.now value.now) }
 {
-    match headers.add(name, value.as_bytes()) {
-        Ok(()) => Ok(headers),
-        Err(HeaderError::WantOfMemory) => Err(OciDistributionError::WantOfMemory),
-        Err(HeaderError::BadName) => unreachable!(),
-        Err(HeaderError::BadValue) => Err(OciDistributionError::GenericError(
-            GenericCause::HeaderText,
-        )),
-        Err(HeaderError::TooMany) => Err(OciDistributionError::GenericError(
-            GenericCause::HeaderText,
-        )),
+    match oci_transport::with_header(headers, name, value.as_bytes())? {
+        Some(headers) => Ok(headers),
+        None => Err(OciDistributionError::GenericError(GenericCause::HeaderText)),
     }
 }
 
 fn with_accept(headers: Headers, types: Option<&str>) -> Result<Headers, OciDistributionError>
-    ensures { Matches result (with_accept (option_copied types.entry) headers) }
+    ensures { Matches is_memory result (with_accept (option_copied types.entry) headers) }
 {
     match types {
         Some(types) => with_header(headers, "accept", types),
@@ -78,7 +72,7 @@ fn with_token(
     headers: Headers,
     token: &Option<RegistryTokenType>,
 ) -> Result<Headers, OciDistributionError>
-    ensures { Matches result (with_token token.now headers) }
+    ensures { Matches is_memory result (with_token token.now headers) }
 {
     match token {
         Some(token) => {
@@ -96,7 +90,7 @@ fn headers_of(
     types: Option<&str>,
     token: &Option<RegistryTokenType>,
 ) -> Result<Headers, OciDistributionError>
-    ensures { Matches result (headers_of settings.now (option_copied types.entry) token.now) }
+    ensures { Matches is_memory result (headers_of settings.now (option_copied types.entry) token.now) }
 {
     let headers = with_header(
         Headers::new(alloc),
@@ -118,7 +112,7 @@ pub fn request_of(
     types: Option<&str>,
     token: &Option<RegistryTokenType>,
 ) -> Result<Request, OciDistributionError>
-    ensures { Matches result (request_of settings.now method url.now (option_copied types.entry) token.now) }
+    ensures { Matches is_memory result (request_of settings.now method url.now (option_copied types.entry) token.now) }
 {
     let headers = headers_of(alloc, settings, types, token)?;
     let url = Text::new(alloc, url.as_str())?;

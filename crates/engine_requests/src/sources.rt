@@ -1,6 +1,7 @@
 // Where a blob may be: at the registry by its digest, and at the URLs that its descriptor lists.
 ghost use Rattle.std.specs.Prelude.{◌≡◌, IfOk};
-ghost use Rattle.engine_terms.specs.Error.{Matches};
+ghost use Rattle.json_values.specs.Refusals.{Matches};
+ghost use Rattle.engine_terms.specs.Error.{is_memory};
 ghost use Rattle.engine_requests.specs.Sources.{by_scheme, place_of, asked_at};
 
 use crate::requests::{MANIFEST_TYPES, request_of};
@@ -116,7 +117,7 @@ pub fn asked_at(
     settings: &Settings,
     place: Place,
 ) -> Result<Request, OciDistributionError>
-    ensures { Matches result (asked_at settings.now place) }
+    ensures { Matches is_memory result (asked_at settings.now place) }
 {
     match place {
         Place::Web(url) => {

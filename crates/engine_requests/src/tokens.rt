@@ -2,7 +2,8 @@
 ghost use Rattle.std.specs.Prelude.{◌≡◌, ◌∷◌, [], Some, IfOk};
 ghost use Rattle.url.specs.Setters.{append_query_pairs};
 ghost use Rattle.oci_auth.specs.Token.{token_of};
-ghost use Rattle.engine_terms.specs.Error.{Matches};
+ghost use Rattle.json_values.specs.Refusals.{Matches};
+ghost use Rattle.engine_terms.specs.Error.{is_memory};
 ghost use Rattle.engine_requests.specs.Tokens.{wanted_in, wanted, allowed, scope_of, with_scope};
 ghost use Rattle.engine_requests.specs.Tokens.{with_service, realm_url, realm_request, decoded};
 ghost use Rattle.engine_requests.specs.Tokens.{token_read};
@@ -122,7 +123,7 @@ pub fn realm_request(
     service: &Option<Text>,
     url: Url,
 ) -> Result<Request, OciDistributionError>
-    ensures { Matches result (realm_request settings.now image.now auth.now op service.now url) }
+    ensures { Matches is_memory result (realm_request settings.now image.now auth.now op service.now url) }
 {
     let url = realm_url(alloc, image, op, service, url)?;
     let token = auth.own_token(alloc)?;
@@ -132,7 +133,7 @@ pub fn realm_request(
 
 // Parses the token in a body.
 fn decoded(alloc: Global, body: Blob) -> Result<Option<RegistryTokenType>, OciDistributionError>
-    ensures { Matches result (decoded body (token_of body)) }
+    ensures { Matches is_memory result (decoded body (token_of body)) }
 {
     match RegistryToken::read(alloc, body.as_slice()) {
         Ok(token) => Ok(Some(RegistryTokenType::Bearer(token))),
@@ -149,7 +150,7 @@ pub fn token_read(
     alloc: Global,
     answer: Answer,
 ) -> Result<Option<RegistryTokenType>, OciDistributionError>
-    ensures { Matches result (token_read answer) }
+    ensures { Matches is_memory result (token_read answer) }
 {
     if answer.status != 200 {
         return Err(OciDistributionError::AuthenticationFailure(TokenBody::new(answer.body)));

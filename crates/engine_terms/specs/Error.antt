@@ -1,6 +1,5 @@
 -- Refusals, and steps that make no request.
-use Rattle.std.specs.Prelude.{ℕ, List, Bool, true, false, Result, Ok, Err, codes}
-use Rattle.json_values.specs.Refusals as Refusals
+use Rattle.std.specs.Prelude.{ℕ, List, Bool, true, false, codes}
 use Rattle.engine_terms.specs.declared.error.OciDistributionError.{OciDistributionError}
 use Rattle.engine_terms.specs.declared.error.OciDistributionError.TheVariants as refusal
 
@@ -21,6 +20,8 @@ name_of (refusal.HeaderValueError a) = codes "HeaderValueError"
 name_of refusal.ImageIndexParsingNoPlatformResolverError = codes "ImageIndexParsingNoPlatformResolverError"
 name_of (refusal.ImageManifestNotFoundError a) = codes "ImageManifestNotFoundError"
 name_of (refusal.IncompatibleLayerMediaTypeError a) = codes "IncompatibleLayerMediaTypeError"
+name_of (refusal.JsonError a) = codes "JsonError"
+name_of (refusal.ManifestEncodingError a) = codes "ManifestEncodingError"
 name_of (refusal.ManifestParsingError a) = codes "ManifestParsingError"
 name_of refusal.PullNoLayersError = codes "PullNoLayersError"
 name_of refusal.PushNoDataError = codes "PushNoDataError"
@@ -39,21 +40,3 @@ name_of (refusal.UnsupportedSchemaVersionError a) = codes "UnsupportedSchemaVers
 name_of (refusal.UrlParseError a) = codes "UrlParseError"
 name_of (refusal.VersionedParsingError a) = codes "VersionedParsingError"
 name_of refusal.WantOfMemory = codes "WantOfMemory"
-
--- the result of a step without a request, unless memory ran out
-abbrev pub Matches : {A : Type 0} → Result A OciDistributionError → Result A OciDistributionError → Type 0
-Matches answer said = Refusals.Matches is_memory answer said
-
--- the refusal is this one, unless memory ran out
-abbrev pub MatchesError : OciDistributionError → OciDistributionError → Type 0
-MatchesError e said = Refusals.MatchesError is_memory e said
-
-infixl 10 ◌>>=◌
--- a refusal ends the steps
-abbrev pub ◌>>=◌ : {A B E : Type 0} → Result A E → (A → Result B E) → Result B E
-(Ok a) >>= f = f a
-(Err e) >>= f = Err e
-
-infixl 10 ◌>>◌
-abbrev pub ◌>>◌ : {A B E : Type 0} → Result A E → Result B E → Result B E
-p >> q = p >>= (λ _. q)

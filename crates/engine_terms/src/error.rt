@@ -60,6 +60,10 @@ pub enum OciDistributionError {
     ImageManifestNotFoundError(Text),
     /// The media type of a layer is not accepted.
     IncompatibleLayerMediaTypeError(Text),
+    /// The body of a list is not JSON, contains a float, or does not match the list's table.
+    JsonError(Blob),
+    /// The body of a list is not UTF-8.
+    ManifestEncodingError(Blob),
     /// The document parses neither as a manifest nor as an index.
     ManifestParsingError(Blob),
     /// The manifest has no layers.
@@ -119,6 +123,8 @@ impl OciDistributionError {
             }
             Self::ImageManifestNotFoundError(_) => "ImageManifestNotFoundError",
             Self::IncompatibleLayerMediaTypeError(_) => "IncompatibleLayerMediaTypeError",
+            Self::JsonError(_) => "JsonError",
+            Self::ManifestEncodingError(_) => "ManifestEncodingError",
             Self::ManifestParsingError(_) => "ManifestParsingError",
             Self::PullNoLayersError => "PullNoLayersError",
             Self::PushNoDataError => "PushNoDataError",
@@ -192,6 +198,8 @@ impl Copied for OciDistributionError {
             HeaderValueError,
             ImageManifestNotFoundError,
             IncompatibleLayerMediaTypeError,
+            JsonError,
+            ManifestEncodingError,
             ManifestParsingError,
             RegistryTokenDecodeError,
             SpecViolationError,

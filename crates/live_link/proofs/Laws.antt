@@ -64,10 +64,10 @@ nothing_left request stage r s t k l o (was_sent reply whole is asks) none =
 pub told_unanswered : {S K : Type 0} (source_state : S → SourceState) (sink : K → SinkState) (began : List (S × K)) (items later : List (S × Log Request Heard)) (source : S) (said : Log Request Heard)
     → (request : Request) (head : Option AnswerHead) (old new : Link)
     → later ≡ items ++ (source, said) ∷ [] → said.items ≡ (request, record { head = head; faults = old.faults }) ∷ [] → head ≡ None
-    → old.answers ≡ None → old.told ≡ told_since source_state sink began (exchanges_by source_state items) → new.told ≡ told_since source_state sink began (exchanges_by source_state later)
+    → old.answers ≡ None → new.exact ≡ old.exact → old.told ≡ told_since source_state sink began (exchanges_by source_state items) → new.told ≡ told_since source_state sink began (exchanges_by source_state later)
     → AddsUnanswered request old new
-told_unanswered source_state sink began items later source said request head old new is one none unknown was now =
-    extends old new (exchange_of request None old ∷ []) unknown (λ before told.
+told_unanswered source_state sink began items later source said request head old new is one none unknown exact was now =
+    extends old new (exchange_of request None old ∷ []) unknown exact (λ before told.
     now ∙ tells_more source_state sink began (exchanges_by source_state items) (exchanges_by source_state later) before (exchange_of request None old)
     (one_entry source_state items later source said _ is one
     ∙ ap (λ (o : Option AnswerHead). exchanges_by source_state items ++ exchange_in (source_state source).left (request, record { head = o; faults = old.faults }) ∷ []) none)
@@ -77,25 +77,26 @@ told_unanswered source_state sink began items later source said request head old
 pub told_answered : {S K : Type 0} (source_state : S → SourceState) (sink : K → SinkState) (began : List (S × K)) (items later : List (S × Log Request Heard)) (source : S) (said : Log Request Heard)
     → (request : Request) (given : Option AnswerHead) (head : AnswerHead) (stage : Stage) (old new : Link)
     → later ≡ items ++ (source, said) ∷ [] → said.items ≡ (request, record { head = given; faults = old.faults }) ∷ [] → given ≡ Some head
-    → old.answers ≡ None → old.told ≡ told_since source_state sink began (exchanges_by source_state items) → new.told ≡ told_since source_state sink began (exchanges_by source_state later)
+    → old.answers ≡ None → new.exact ≡ old.exact → new.faults ≡ old.faults → old.told ≡ told_since source_state sink began (exchanges_by source_state items) → new.told ≡ told_since source_state sink began (exchanges_by source_state later)
     → stage ≡ Open → new.rest ≡ rest_in stage (source_state source).left
     → ((before : List Exchange) → old.told ≡ Some before → is_some (source_state source).left ≡ true)
     → Answers request head old new
-told_answered source_state sink began items later source said request given head stage old new is one some unknown was now opened left known = record {
+told_answered source_state sink began items later source said request given head stage old new is one some unknown exact calm was now opened left known = record {
   body = body_left (source_state source).left;
-  added = extends old new (exchange_of request (Some (answer_of head (body_left (source_state source).left))) old ∷ []) unknown (λ before told.
+  added = extends old new (exchange_of request (Some (answer_of head (body_left (source_state source).left))) old ∷ []) unknown exact (λ before told.
       now ∙ tells_more source_state sink began (exchanges_by source_state items) (exchanges_by source_state later) before (exchange_of request (Some (answer_of head (body_left (source_state source).left))) old)
       (one_entry source_state items later source said _ is one
       ∙ ap (λ (o : Option AnswerHead). exchanges_by source_state items ++ exchange_in (source_state source).left (request, record { head = o; faults = old.faults }) ∷ []) some)
       (sym was ∙ told));
   rest = λ before told. left ∙ rest_known stage (source_state source).left opened (known before told);
+  calm = λ h. calm;
 }
 
 -- nothing is exposed
-pub told_nothing : (request : Request) (old new : Link) → old.answers ≡ None → new.told ≡ old.told → AddsAtMost request old new
-told_nothing request old new unknown same = record {
+pub told_nothing : (request : Request) (old new : Link) → old.answers ≡ None → new.exact ≡ old.exact → new.told ≡ old.told → AddsAtMost request old new
+told_nothing request old new unknown exact same = record {
   conversation = [];
-  added = extends old new [] unknown (λ before told. same ∙ told ∙ ap Some (sym (append-nil before)));
+  added = extends old new [] unknown exact (λ before told. same ∙ told ∙ ap Some (sym (append-nil before)));
   most = tt;
 }
 

@@ -1,5 +1,5 @@
 pub mod FrameParts
-pub mod HeaderSteps
+pub mod HeaderReads
 pub mod HeaderTexts
 pub mod Kept
 pub mod Laws

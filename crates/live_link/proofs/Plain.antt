@@ -1,13 +1,14 @@
 -- No frame that is sent contains a float.
-use Rattle.std.proofs.Common.{◌≡◌, ℕ, Bool, true, false, ◌||◌, List, [], ◌∷◌, ◌++◌, map, refl, if◌then◌else◌}
+use Rattle.std.proofs.Common.{◌≡◌, ℕ, zero, suc, Bool, true, false, ◌||◌, List, [], ◌∷◌, ◌++◌, length, map, Some, codes, refl, if◌then◌else◌}
 use Rattle.std.specs.List.{flat_map}
 use Rattle.std.specs.FinMap as finmap
-use Rattle.serde_json.specs.Data.{Data, array}
+use Rattle.serde_json.specs.Data.{Data, array, string}
 use Rattle.serde_json.specs.View.{items_of}
 use Rattle.serde_json.specs.Written.{has_float, items_have_float}
 use Rattle.oci_transport.specs.Headers.{Fields, values_of, is_text}
 use Rattle.oci_transport.specs.declared.message.Request.{Request}
-use Rattle.live_link.specs.Requests.{value_data, header_data, values_data, headers_data, request_data, more_data}
+use Rattle.json_tables.specs.Fields.{fields}
+use Rattle.live_link.specs.Requests.{value_data, header_data, values_data, headers_data, request_data, more_data, method_name, size_data}
 
 plain_either : (t : Bool) (a b : Data) → has_float a ≡ false → has_float b ≡ false → has_float (if t then a else b) ≡ false
 plain_either true a b is also = is
@@ -48,7 +49,20 @@ plain_names m (name ∷ names) = plain_append (values_data m name) (flat_map (va
 
 pub plain_request : (request : Request) → has_float (request_data request) ≡ false
 unfolding request_data
-plain_request request = or_false (has_float (array (items_of (headers_data request.headers)))) _ (plain_names request.headers (finmap.keys request.headers)) refl
+plain_request request = by_size (length request.body)
+  where
+    headers : has_float (array (items_of (headers_data request.headers))) ≡ false
+    headers = plain_names request.headers (finmap.keys request.headers)
+
+    by_size : (size : ℕ) → has_float (fields (
+        (codes "frame", Some (string (codes "request")))
+        ∷ (codes "method", Some (string (method_name request.method)))
+        ∷ (codes "url", Some (string request.url))
+        ∷ (codes "headers", Some (array (items_of (headers_data request.headers))))
+        ∷ (codes "bytes", size_data size)
+        ∷ [])) ≡ false
+    by_size zero = or_false (has_float (array (items_of (headers_data request.headers)))) _ headers refl
+    by_size (suc n) = or_false (has_float (array (items_of (headers_data request.headers)))) _ headers refl
 
 pub plain_more : has_float more_data ≡ false
 plain_more = refl

@@ -70,18 +70,19 @@ rest_known stage o opened is = ap (λ s. rest_in s o) opened ∙ body_known o is
 no_answering : (o : Option Answering) (a : Answering) → o ≡ None → o ≡ Some a → ⊥
 no_answering o a none is = cc (none, is)
 
-pub steady : (old new : Link) → old.answers ≡ None → Steady old new
-steady old new none = record {
+pub steady : (old new : Link) → old.answers ≡ None → new.exact ≡ old.exact → Steady old new
+steady old new none exact = record {
+  exact = exact;
   steady = λ a is. absurd (no_answering old.answers a none is);
   quiet = λ a is never. absurd (no_answering old.answers a none is);
 }
 
-pub extends : (old new : Link) (added : List Exchange) → old.answers ≡ None
+pub extends : (old new : Link) (added : List Exchange) → old.answers ≡ None → new.exact ≡ old.exact
     → ((before : List Exchange) → old.told ≡ Some before → new.told ≡ Some (before ++ added)) → Extends old new added
-extends old new added none told = record {
+extends old new added none exact told = record {
   told = told;
   table = λ a before is was. absurd (no_answering old.answers a none is);
-  stays = steady old new none;
+  stays = steady old new none exact;
 }
 
 -- ---- a piece

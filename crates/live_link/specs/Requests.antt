@@ -1,10 +1,10 @@
 -- The frames that are sent: a request, and the request for the next piece of a body.
-use Rattle.std.specs.Prelude.{ℕ, List, [], ◌∷◌, map, Some, codes, if◌then◌else◌}
+use Rattle.std.specs.Prelude.{ℕ, suc, zero, List, [], ◌∷◌, length, map, Option, Some, None, codes, if◌then◌else◌}
 use Rattle.std.specs.List.{flat_map}
 use Rattle.std.specs.FinMap as finmap
 use Rattle.base64.specs.Engines.{standard}
 use Rattle.base64.specs.GeneralPurpose.{encode_of}
-use Rattle.serde_json.specs.Data.{Data, string, array, item, no_items}
+use Rattle.serde_json.specs.Data.{Data, string, array, item, no_items, number, unsigned}
 use Rattle.serde_json.specs.View.{items_of}
 use Rattle.json_tables.specs.Fields.{fields}
 use Rattle.oci_transport.specs.Headers.{Fields, values_of, is_text}
@@ -37,6 +37,11 @@ values_data m name = map (λ value. header_data (name, value)) (values_of name m
 abbrev pub headers_data : Fields → List Data
 headers_data m = flat_map (values_data m) (finmap.keys m)
 
+-- the member that says how many bytes come after the line; absent if none do
+abbrev pub size_data : ℕ → Option Data
+size_data zero = None
+size_data (suc n) = Some (number (unsigned (suc n)))
+
 -- the object of a request's frame
 unfoldable pub request_data : Request → Data
 request_data request = fields (
@@ -44,11 +49,12 @@ request_data request = fields (
     ∷ (codes "method", Some (string (method_name request.method)))
     ∷ (codes "url", Some (string request.url))
     ∷ (codes "headers", Some (array (items_of (headers_data request.headers))))
+    ∷ (codes "bytes", size_data (length request.body))
     ∷ [])
 
--- the frame of a request, which has no body
+-- the frame of a request: its line, and its body
 abbrev pub request_text : Request → List ℕ
-request_text request = frame_text (request_data request) []
+request_text request = frame_text (request_data request) request.body
 
 -- the object that requests the next piece
 abbrev pub more_data : Data

@@ -1,5 +1,5 @@
 -- What a transport over a source and a sink exposes.
-use Rattle.std.specs.Prelude.{List, Option, None}
+use Rattle.std.specs.Prelude.{true, List, Option, None}
 use Rattle.byte_streams.specs.declared.source.Source as source
 use Rattle.byte_streams.specs.declared.sink.Sink as sink
 use Rattle.oci_transport.specs.Link.{Link}
@@ -13,12 +13,15 @@ abbrev pub exchanges_of : {S K : Type 0} {s : source.Ghosts S} {k : sink.Ghosts 
     → StreamTransport S K s k → List Exchange
 exchanges_of {s = s} t = exchanges_by s.state t.heard.items
 
--- Exposes its exchanges if source and sink expose their bytes. Its responses are not predetermined.
+-- Exposes its exchanges if source and sink expose their bytes. Its responses are not predetermined. Only failed calls
+-- increase its fault count.
 abbrev pub state_of : {S K : Type 0} {s : source.Ghosts S} {k : sink.Ghosts K} → StreamTransport S K s k → Link
 state_of {s = s} {k = k} t = record {
   told = told_since s.state k.state t.began.items (exchanges_of t);
   rest = rest_in t.stage (s.state t.source).left;
+  pieces = None;
   faults = t.faults;
+  exact = true;
   answers = None;
 }
 

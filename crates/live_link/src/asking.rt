@@ -1,5 +1,5 @@
 // One question to the host: a frame is sent, and a frame is received.
-ghost use Rattle.std.specs.Prelude.{◌≡◌, [], false, is_some};
+ghost use Rattle.std.specs.Prelude.{◌≡◌, false, is_some};
 ghost use Rattle.serde_json.specs.Written.{has_float};
 ghost use Rattle.live_link.specs.Writing.{frame_text};
 ghost use Rattle.live_link.specs.Asking.{Asks, Sends, PieceReply, unsent, head_after, piece_after};
@@ -15,24 +15,25 @@ use json_values::{Blob, Json};
 use oci_transport::{AnswerHead, Request};
 use std::alloc::Global;
 
-// Sends a frame with no bytes after its line, and reads a reply.
+// Sends a frame with these bytes after its line, and reads a reply.
 fn ask<S: Source, K: Sink>(
     alloc: Global,
     source: &mut S,
     sink: &mut K,
     head: &Json,
+    bytes: &[u8],
 ) -> Result<Reply, Breach>
     requires plain { has_float head.now ≡ false }
-    ensures { Asks (frame_text head.now []) result
+    ensures { Asks (frame_text head.now bytes.now) result
         (S.state source.old) (S.state source.new) (K.state sink.old) (K.state sink.new) }
 {
-    write_frame(alloc, sink, head, &[])?;
+    write_frame(alloc, sink, head, bytes)?;
     let frame = read_frame(alloc, source, MOST_BYTES)?;
     let reply = read_reply(alloc, frame)?;
     Ok(reply)
 }
 
-/// Sends a request, unless the streams are out of step or it has a body. Returns the stage after it, and the head of
+/// Sends a request, unless the streams are out of step. Returns the stage after it, and the head of
 /// its response, if one arrived.
 #[tactic(auto, using(crate::proofs::Plain::plain_request))]
 pub(crate) fn ask_request<S: Source, K: Sink>(
@@ -47,10 +48,10 @@ pub(crate) fn ask_request<S: Source, K: Sink>(
     ensures { Sends request.now stage result
         (S.state source.old) (S.state source.new) (K.state sink.old) (K.state sink.new) }
 {
-    if is_broken(stage) || !request.body.as_slice().is_empty() {
+    if is_broken(stage) {
         return (unsent(stage), None);
     }
-    let reply = ask(alloc, source, sink, object);
+    let reply = ask(alloc, source, sink, object, request.body.as_slice());
     head_after(reply)
 }
 
@@ -65,7 +66,7 @@ pub(crate) fn ask_piece<S: Source, K: Sink>(
     ensures { PieceReply result
         (S.state source.old) (S.state source.new) (K.state sink.old) (K.state sink.new) }
 {
-    let reply = ask(alloc, source, sink, object);
+    let reply = ask(alloc, source, sink, object, &[]);
     piece_after(alloc, reply)
 }
 

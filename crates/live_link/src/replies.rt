@@ -1,16 +1,15 @@
 // Parses the frames that are received.
 ghost use Rattle.std.specs.Prelude.{◌≡◌, IfOk, codes};
-ghost use Rattle.std.specs.FinMap.{empty};
 ghost use Rattle.serde_json.specs.View.{view};
 ghost use Rattle.json_tables.specs.Outcomes.{ReadsTo};
 ghost use Rattle.json_tables.specs.Member.{required};
-ghost use Rattle.live_link.specs.Heads.{answer_head_of, status_of, headers_of, with_headers, Adds};
+ghost use Rattle.live_link.specs.Heads.{answer_head_of, status_of, headers_of};
 ghost use Rattle.live_link.specs.Replies.{reply_of, piece_reply, plain_reply, answer_reply};
 
 use crate::frame::Frame;
 use json_tables::{ReadError, Reads, only, required};
 use json_values::{Blob, List, Text};
-use oci_transport::{AnswerHead, HeaderError, Headers};
+use oci_transport::{AnswerHead, Headers, headers_from};
 use serde_json::Value;
 use std::alloc::{AllocError, Global};
 
@@ -102,29 +101,8 @@ fn read_headers(alloc: Global, value: &Value) -> Result<Headers, ReadError>
     ensures { ReadsTo result (required headers_of (codes "headers") (view value.now)) }
 {
     let pairs: List<(Text, Blob)> = required(alloc, value, "headers")?;
-    let headers = headers_from(alloc, pairs.as_slice())?;
-    Ok(headers)
-}
-
-fn headers_from(alloc: Global, pairs: &[(Text, Blob)]) -> Result<Headers, ReadError>
-    ensures { ReadsTo result (with_headers empty pairs.now) }
-{
-    let mut headers = Headers::new(alloc);
-    for (name, value) in pairs {
-        add_header(&mut headers, name.as_str(), value.as_slice())?;
-    }
-    Ok(headers)
-}
-
-// Adds a header after the others of its name.
-fn add_header(headers: &mut Headers, name: &str, value: &[u8]) -> Result<(), ReadError>
-    ensures { Adds result headers.old headers.new (name.now, value.now) }
-{
-    match headers.add(name, value) {
-        Ok(()) => Ok(()),
-        Err(HeaderError::BadName) => Err(ReadError::Shape),
-        Err(HeaderError::BadValue) => Err(ReadError::Shape),
-        Err(HeaderError::TooMany) => Err(ReadError::Shape),
-        Err(HeaderError::WantOfMemory) => Err(ReadError::WantOfMemory),
+    match headers_from(alloc, pairs.as_slice())? {
+        Some(headers) => Ok(headers),
+        None => Err(ReadError::Shape),
     }
 }

@@ -1,16 +1,16 @@
 // Builds the objects of the frames that are sent.
-ghost use Rattle.std.specs.Prelude.{◌≡◌, ◌++◌, IfOk, OnOk, map};
+ghost use Rattle.std.specs.Prelude.{◌≡◌, ◌++◌, IfOk, OnOk, ⊤, map};
 ghost use Rattle.base64.specs.Engines.{standard};
 ghost use Rattle.base64.specs.GeneralPurpose.{encode_of};
 ghost use Rattle.serde_json.specs.View.{view, items_view, items_of};
 ghost use Rattle.live_link.specs.Requests.{request_data, more_data, method_name, value_data, header_data};
-ghost use Rattle.live_link.specs.Requests.{values_data, headers_data};
+ghost use Rattle.live_link.specs.Requests.{values_data, headers_data, size_data};
 
 use base64::engine::general_purpose::STANDARD;
-use json_tables::object;
+use json_tables::{Field, object};
 use json_values::{Json, Text};
 use oci_transport::{Headers, Method, Request, header_text};
-use serde_json::Value;
+use serde_json::{Map, Value};
 use std::alloc::{AllocError, Global};
 
 /// Returns the object of a request's frame.
@@ -24,6 +24,7 @@ pub(crate) fn request_object(alloc: Global, request: &Request) -> Result<Json, A
         "method": &method_name(request.method),
         "url": &request.url,
         "headers": &headers,
+        "bytes": &Size(request.body.as_slice().len()),
     })?;
     Ok(Json::new(value))
 }
@@ -45,6 +46,28 @@ fn method_name(method: Method) -> &'static str
         Method::Post => "POST",
         Method::Put => "PUT",
         Method::Patch => "PATCH",
+    }
+}
+
+// The size of a body as a member, which is absent for an empty body.
+#[derive(Drop)]
+struct Size(usize);
+
+impl Field for Size {
+    ghost field = { λ size. size_data size.0 };
+
+    ghost Known = { λ _. ⊤ };
+
+    fn put_in(
+        &self,
+        alloc: Global,
+        members: &mut Map<String, Value>,
+        name: &str,
+    ) -> Result<(), AllocError> {
+        if self.0 == 0 {
+            return Ok(());
+        }
+        Json::new(Value::from(self.0 as u64)).put_in(alloc, members, name)
     }
 }
 

@@ -26,7 +26,7 @@ pub struct StreamTransport<S: Source, K: Sink> {
 }
 
 impl<S: Source, K: Sink> StreamTransport<S, K> {
-    ghost use Rattle.std.specs.Prelude.{◌≡◌, ℕ, List, [], ◌∷◌, Some, None};
+    ghost use Rattle.std.specs.Prelude.{◌≡◌, ℕ, true, List, [], ◌∷◌, Some, None};
     ghost use Rattle.oci_transport.specs.declared.message.Exchange.{Exchange};
     ghost use Rattle.live_link.specs.State.{opening, told_from, Held};
     ghost use Rattle.live_link.specs.Shown.{state_of, breach_of};
@@ -35,6 +35,7 @@ impl<S: Source, K: Sink> StreamTransport<S, K> {
     pub fn new(source: S, sink: K) -> StreamTransport<S, K>
         ensures told { (state_of result).told ≡ told_from (K.state sink).taken (S.state source).left [] }
         ensures faults { (state_of result).faults ≡ 0 }
+        ensures exact { (state_of result).exact ≡ true }
         ensures breach { breach_of result ≡ None }
     {
         let began = Log::new().and(&source, &sink);

@@ -44,18 +44,18 @@ piece_may_fail shelf sends pieces n there never = let one : (is_among 0 sends ||
 
 pub sent : (a b : Answering) (faults : ℕ) (old new : Served) (request : Request) (head : AnswerHead) → IsAnswered request head faults old new → a.answer (length old.told) request ≡ Some (answer old.shelf request) → b ≡ a → Answers request head (link_of old faults a) (link_of new faults b)
 sent a b faults old new request head step by same =
-    answered_next a (link_of old faults a) (link_of new faults b) old.told request head (answer old.shelf request) refl (ap Some same) (λ never. refl) refl (ap Some step.told) by step.status step.headers (ap (λ n. Some (drop n new.body)) step.given ∙ ap Some step.body)
+    answered_next a (link_of old faults a) (link_of new faults b) old.told request head (answer old.shelf request) refl (ap Some same) refl refl refl (ap Some step.told) by step.status step.headers (ap (λ n. Some (drop n new.body)) step.given ∙ ap Some step.body)
 
 pub failed : (a b : Answering) (faults raised : ℕ) (old new : Served) (request : Request) → IsUnanswered request faults old new → a.answer (length old.told) request ≡ None → b ≡ a → (NeverFails a → raised ≡ faults) → AddsUnanswered request (link_of old faults a) (link_of new raised b)
 failed a b faults raised old new request step by same quiet =
-    told_next a (link_of old faults a) (link_of new raised b) old.told (record { request = request; answer = None; faults = faults }) refl (ap Some same) quiet refl (ap Some step.told) (sym by)
+    told_next a (link_of old faults a) (link_of new raised b) old.told (record { request = request; answer = None; faults = faults }) refl (ap Some same) refl quiet refl (ap Some step.told) (sym by)
 
 -- after a failed send nothing is returned
 pub nothing : (a b : Answering) (faults raised : ℕ) (old new : Served) (request : Request) → IsUnanswered request faults old new → LeavesRest [] (link_of old faults a) (link_of new raised b)
 nothing a b faults raised old new request step = λ before h. ap (λ n. Some (drop n new.body)) step.given ∙ ap Some step.body
 
 pub stays : (a b : Answering) (faults raised : ℕ) (old new : Served) → b ≡ a → (NeverFails a → raised ≡ faults) → Steady (link_of old faults a) (link_of new raised b)
-stays a b faults raised old new same quiet = same_table a (link_of old faults a) (link_of new raised b) refl (ap Some same) quiet
+stays a b faults raised old new same quiet = same_table a (link_of old faults a) (link_of new raised b) refl (ap Some same) refl quiet
 
 -- no body is truncated
 pub whole_bodies : (shelf : Shelf) (place : ℕ) → (answering shelf).breaks place ≡ None
@@ -74,7 +74,7 @@ unbroken a faults old never e answer bytes b =
     cc some
 
 pub gives : (a b : Answering) (faults : ℕ) (old new : Served) (piece : List ℕ) → ((place : ℕ) → a.breaks place ≡ None) → GivesPiece piece old new → Takes piece (link_of old faults a) (link_of new faults b)
-gives a b faults old new piece never step = takes old.body piece old.given (link_of old faults a) (link_of new faults b) refl (ap Some (ap (λ n. drop n new.body) step.given ∙ ap (drop (old.given + length piece)) step.body)) step.piece_is (λ e answer bytes is. absurd (unbroken a faults old never e answer bytes is)) (λ e answer bytes is past. absurd (unbroken a faults old never e answer bytes is))
+gives a b faults old new piece never step = takes old.body piece old.given (link_of old faults a) (link_of new faults b) refl (ap Some (ap (λ n. drop n new.body) step.given ∙ ap (drop (old.given + length piece)) step.body)) step.piece_is refl refl (λ e answer bytes is. absurd (unbroken a faults old never e answer bytes is)) (λ e answer bytes is past. absurd (unbroken a faults old never e answer bytes is))
 
 some_is : {A : Type 0} (x y : A) → Some x ≡ Some y → x ≡ y
 some_is x y h = cc h

@@ -42,8 +42,8 @@ inside_of g (Some c) before h = by (knows g c) refl h where
 told_by : {T : Type 0} (g : Guarded T) (told : Option (List Exchange)) (c : List Exchange) → told ≡ Some c → knows g c ≡ true → option_and_then (told_of g) told ≡ Some (told_with 0 g.unsent c)
 told_by g told c is known = ap (option_and_then (told_of g)) is ∙ ap (λ b. if b then Some (told_with 0 g.unsent c) else None) known
 
-untabled : {T : Type 0} (g h : Guarded T) (old new : Link) → Steady (shown g old) (shown h new)
-untabled g h old new = record { steady = λ a is. absurd (cc is); quiet = λ a is never. absurd (cc is) }
+untabled : {T : Type 0} (g h : Guarded T) (old new : Link) → new.exact ≡ old.exact → Steady (shown g old) (shown h new)
+untabled g h old new exact = record { exact = exact; steady = λ a is. absurd (cc is); quiet = λ a is never. absurd (cc is) }
 
 -- ---- a request was sent
 
@@ -63,7 +63,7 @@ extends_sent g h old new added by sent = record {
       ∙ ap (λ n. Some (told_with 0 g.unsent at.c ++ map (counted n) added)) (zero_and (length g.unsent))
       ∙ ap (λ b. Some (b ++ map (counted (length g.unsent)) added)) at.is;
   table = λ a before is told. absurd (cc is);
-  stays = untabled g h old new;
+  stays = untabled g h old new by.stays.exact;
 }
 
 pub answered : {T : Type 0} (g h : Guarded T) (old new : Link) (request : Request) (head : AnswerHead) → (by : Answers request head old new)
@@ -72,6 +72,7 @@ answered g h old new request head by sent begun = record {
   body = by.body;
   added = extends_sent g h old new (exchange_of request (Some (answer_of head by.body)) old ∷ []) by.added sent;
   rest = λ before told. let at : Inside g old.told before = inside_of g old.told before told in ap (λ b. rest_of b new.rest) begun ∙ by.rest at.c at.told_is;
+  calm = λ exact i. more (by.calm exact i) (length (sent.unsent i));
 }
 
 pub at_most_one : {T : Type 0} (g h : Guarded T) (old new : Link) (request : Request) (head : AnswerHead) → (by : Answers request head old new)
@@ -146,7 +147,7 @@ refused g h old request x rules unsent sure lost since realm request_is faults a
       ∙ ap (λ r. Some (before ++ record { request = r; answer = None; faults = x.faults } ∷ [])) request_is
       ∙ ap (λ n. Some (before ++ record { request = request; answer = None; faults = n } ∷ [])) faults;
   table = λ a before is told. absurd (cc is);
-  stays = untabled g h old old;
+  stays = untabled g h old old refl;
 }
 
 -- ---- a new guard
@@ -174,7 +175,7 @@ nothing_shown request link = record {
   added = record {
     told = λ before h. h ∙ ap Some (sym (append-nil before));
     table = λ a before ha hb. tt;
-    stays = record { steady = λ a h. h; quiet = λ a h never. refl };
+    stays = record { steady = λ a h. h; quiet = λ a h never. refl; exact = refl };
   };
   most = tt;
 }

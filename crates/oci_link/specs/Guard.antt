@@ -57,6 +57,10 @@ keep rules c = keep_after rules None c
 abbrev pub KeepsTold : Rules → Link → Type 0
 KeepsTold rules link = (c : List Exchange) → link.told ≡ Some c → keep rules c ≡ true
 
+-- if exchanges are exposed, there are none yet
+abbrev pub IsFresh : Link → Type 0
+IsFresh link = (c : List Exchange) → link.told ≡ Some c → c ≡ []
+
 -- ---- the guard's knowledge
 
 -- the realm that is named last, or else this one

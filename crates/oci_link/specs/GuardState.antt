@@ -1,9 +1,11 @@
 -- What a contract sees of a guard.
-use Rattle.std.specs.Prelude.{ℕ, Bool, true, false, List, [], length, Option, Some, None, option_and_then}
+use Rattle.std.specs.Prelude.{◌≡◌, ℕ, Bool, true, false, List, [], length, Option, Some, None, option_and_then}
 use Rattle.std.specs.Prelude.{if◌then◌else◌}
 use Rattle.oci_transport.specs.Link.{Link}
 use Rattle.oci_transport.specs.declared.message.Exchange.{Exchange}
+use Rattle.oci_transport.specs.declared.message.Request.{Request}
 use Rattle.oci_link.specs.Guard.{fits, more, told_with}
+use Rattle.oci_link.specs.Rules.{passes}
 use Rattle.oci_link.specs.declared.rules.Rules.{Rules}
 use Rattle.oci_link.specs.declared.guarded.Guarded.{Guarded}
 
@@ -21,7 +23,9 @@ abbrev pub shown : {T : Type 0} → Guarded T → Link → Link
 shown g inner = record {
   told = option_and_then (told_of g) inner.told;
   rest = rest_of g.closed inner.rest;
+  pieces = inner.pieces;
   faults = more inner.faults (length g.unsent);
+  exact = inner.exact;
   answers = None;
 }
 
@@ -30,6 +34,14 @@ state_of state g = shown g (state g.transport)
 
 abbrev pub rules_of : {T : Type 0} → Guarded T → Rules
 rules_of g = g.rules
+
+-- the realm to which credentials may go next
+abbrev pub realm_of : {T : Type 0} → Guarded T → Option (List ℕ)
+realm_of g = g.realm
+
+-- the rules allow the request
+abbrev pub Allows : {T : Type 0} → Guarded T → Request → Type 0
+Allows g request = passes g.rules g.realm request ≡ true
 
 abbrev pub inside : {T : Type 0} → Guarded T → T
 inside g = g.transport

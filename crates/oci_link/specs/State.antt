@@ -1,5 +1,5 @@
 -- What a contract sees of a shelf's transports.
-use Rattle.std.specs.Prelude.{ℕ, Bool, false, ◌==◌, ◌||◌, not, List, length, drop, Some, None, if◌then◌else◌}
+use Rattle.std.specs.Prelude.{ℕ, Bool, true, false, ◌==◌, ◌||◌, not, List, length, drop, Some, None, if◌then◌else◌}
 use Rattle.std.specs.List.{list_any}
 use Rattle.oci_transport.specs.Link.{Link, Answering}
 use Rattle.oci_link.specs.Table.{answer}
@@ -28,12 +28,14 @@ failing shelf sends pieces = record {
   breaks = λ place. None;
 }
 
--- the exchanges, and the rest of the last body
+-- the exchanges, and the rest of the last body; only failed calls increase the fault count
 abbrev pub link_of : Served → ℕ → Answering → Link
 link_of s faults answers = record {
   told = Some s.told;
   rest = Some (drop s.given s.body);
+  pieces = None;
   faults = faults;
+  exact = true;
   answers = Some answers;
 }
 

@@ -1,9 +1,10 @@
 -- The answer of a shelf to a request (OCI distribution specification, "Pull").
-use Rattle.std.specs.Prelude.{ℕ, ◌==◌, nat_lt, Bool, true, false, ◌&&◌, List, [], length, Option, Some, None, codes}
+use Rattle.std.specs.Prelude.{ℕ, ◌==◌, Bool, true, false, List, [], length, Option, Some, None, unwrap_or, codes}
 use Rattle.std.specs.Prelude.{if◌then◌else◌}
 use Rattle.std.specs.List.{list_any}
 use Rattle.std.specs.FinMap as map
-use Rattle.oci_transport.specs.Headers.{Fields, digest_header, added, held, is_header_value}
+use Rattle.oci_transport.specs.Headers as fields
+use Rattle.oci_transport.specs.Headers.{Fields, digest_header}
 use Rattle.oci_transport.specs.declared.message.Request.{Request}
 use Rattle.oci_transport.specs.declared.message.Answer.{Answer}
 use Rattle.oci_transport.specs.declared.message.Method.{Method}
@@ -23,8 +24,7 @@ is_get_or_head _ = false
 
 -- a header with an invalid value is omitted
 abbrev pub with_header : List ℕ → List ℕ → Fields → Fields
-with_header name value headers =
-    if is_header_value value && nat_lt (held headers) 1000 then added headers name value else headers
+with_header name value headers = unwrap_or (fields.with_header headers name value) headers
 
 abbrev pub found : Fields → List ℕ → Answer
 found headers body = record { status = 200; headers = headers; body = body }

@@ -29,6 +29,7 @@ fn is_among(number: u64, numbers: &[u64]) -> bool
 impl FaultyShelf {
     ghost use Rattle.oci_link.specs.State.{failing, faulty_shelf_of, failing_sends, failing_pieces, next_piece};
     ghost use Rattle.oci_link.specs.State.{faulty_state_of};
+    ghost use Rattle.std.specs.Prelude.{true};
 
     /// Creates a transport that fails at these numbers of sends and of calls for a piece. The redirects of the shelf
     /// must lead (`Shelf::redirects_lead`).
@@ -40,6 +41,7 @@ impl FaultyShelf {
         ensures calls { next_piece result ≡ 0 }
         ensures told { (faulty_state_of result).told ≡ Some [] }
         ensures faults { (faulty_state_of result).faults ≡ 0 }
+        ensures exact { (faulty_state_of result).exact ≡ true }
         ensures table { (faulty_state_of result).answers ≡ Some (failing shelf sends pieces) }
     {
         FaultyShelf {

@@ -31,18 +31,19 @@ pub struct Guarded<T> {
 }
 
 impl<T: Transport> Guarded<T> {
-    ghost use Rattle.std.specs.Prelude.{◌≡◌, List, []};
-    ghost use Rattle.oci_transport.specs.declared.message.Exchange.{Exchange};
-    ghost use Rattle.oci_link.specs.Guard.{KeepsTold};
-    ghost use Rattle.oci_link.specs.GuardState.{inside, rules_of, state_of};
+    ghost use Rattle.std.specs.Prelude.{◌≡◌, None};
+    ghost use Rattle.oci_link.specs.Guard.{KeepsTold, IsFresh};
+    ghost use Rattle.oci_link.specs.GuardState.{inside, rules_of, realm_of, state_of};
 
-    /// Creates a guard around a transport over which nothing was sent yet.
+    /// Creates a guard around a transport. It exposes its exchanges if the transport does and nothing was sent over it
+    /// yet.
     pub fn new(alloc: Global, transport: T, rules: Rules) -> Guarded<T>
-        requires fresh { (c : List Exchange) → (T.state transport).told ≡ Some c → c ≡ [] }
         ensures inside { inside result ≡ transport }
         ensures rules { rules_of result ≡ rules }
-        ensures told { (state_of T.state result).told ≡ (T.state transport).told }
+        ensures realm { realm_of result ≡ None }
+        ensures told { IsFresh (T.state transport) → (state_of T.state result).told ≡ (T.state transport).told }
         ensures rest { (state_of T.state result).rest ≡ (T.state transport).rest }
+        ensures exact { (state_of T.state result).exact ≡ (T.state transport).exact }
     {
         Guarded {
             transport,
@@ -65,11 +66,12 @@ impl<T: Transport> Guarded<T> {
 }
 
 impl<T: Transport> Transport for Guarded<T> {
-    ghost use Rattle.std.specs.Prelude.{◌≡◌, ◌≤◌, [], IfOk, IsErrOf};
+    ghost use Rattle.std.specs.Prelude.{◌≡◌, ◌≤◌, [], None, IfOk, OnOk, OnErr, IsErrOf};
     ghost use Rattle.json_values.specs.Counts.{Increased};
     ghost use Rattle.oci_transport.specs.Link.{Answers, AddsUnanswered, AddsAtMost, LeavesRest, Takes, Steady};
     ghost use Rattle.oci_link.specs.Guard.{KeepsTold};
-    ghost use Rattle.oci_link.specs.GuardState.{rules_of, state_of};
+    ghost use Rattle.oci_link.specs.GuardState.{Allows, inside, rules_of, realm_of, state_of};
+    ghost use Rattle.oci_link.specs.Rules.{realm_named};
 
     ghost state = { state_of T.state };
 
@@ -87,6 +89,12 @@ impl<T: Transport> Transport for Guarded<T> {
             → AddsAtMost request.now (state_of T.state self.old) (state_of T.state self.new) }
         ensures rules { rules_of self.new ≡ rules_of self.old }
         ensures keeps { KeepsTold (rules_of self.new) (state_of T.state self.new) }
+        ensures allowed { OnOk result (Allows self.old request.now) }
+        ensures sent { Allows self.old request.now → IsErrOf result LinkError.Failed
+            → Increased (T.state (inside self.old)).faults (T.state (inside self.new)).faults }
+        ensures unsent { ¬ (Allows self.old request.now) → inside self.new ≡ inside self.old }
+        ensures realm { IfOk result (λ head. realm_of self.new ≡ realm_named request.now head.headers) }
+        ensures no_realm { IsErrOf result LinkError.Failed → realm_of self.new ≡ None }
     {
         let passes = self.rules.pass(alloc, &self.realm, request)?;
         if !passes {
@@ -132,9 +140,14 @@ impl<T: Transport> Transport for Guarded<T> {
         ensures steady { Steady (state_of T.state self.old) (state_of T.state self.new) }
         ensures count { (state_of T.state self.old).faults ≤ (state_of T.state self.new).faults }
         ensures taken { IfOk result (λ piece. Takes piece (state_of T.state self.old) (state_of T.state self.new)) }
+        ensures none_returned { OnErr result
+            ((state_of T.state self.new).pieces ≡ (state_of T.state self.old).pieces) }
         ensures fault { IsErrOf result LinkError.Failed
             → Increased (state_of T.state self.old).faults (state_of T.state self.new).faults }
         ensures rules { rules_of self.new ≡ rules_of self.old }
+        ensures realm { realm_of self.new ≡ realm_of self.old }
+        ensures inside { IsErrOf result LinkError.Failed
+            → Increased (T.state (inside self.old)).faults (T.state (inside self.new)).faults }
     {
         if self.closed {
             return Ok(Blob::empty(alloc));

@@ -15,6 +15,7 @@ pub struct ShelfTransport {
 }
 
 impl ShelfTransport {
+    ghost use Rattle.std.specs.Prelude.{true};
     ghost use Rattle.oci_link.specs.State.{answering, shelf_of, state_of};
 
     /// Creates a transport of this shelf, whose redirects must lead (`Shelf::redirects_lead`).
@@ -23,6 +24,7 @@ impl ShelfTransport {
         ensures shelf { shelf_of result ≡ shelf }
         ensures told { (state_of result).told ≡ Some [] }
         ensures faults { (state_of result).faults ≡ 0 }
+        ensures exact { (state_of result).exact ≡ true }
         ensures table { (state_of result).answers ≡ Some (answering shelf) }
     {
         ShelfTransport {

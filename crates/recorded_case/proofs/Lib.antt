@@ -1,6 +1,6 @@
 pub mod AnswerParts
 pub mod CaseParts
 pub mod Full
-pub mod HeaderSteps
+pub mod HeaderReads
 pub mod ShelfFaults
 pub mod Written

@@ -8,7 +8,7 @@ use Rattle.cosign_parts.specs.Trust.{Valid}
 use Rattle.cosign_parts.specs.declared.layer.SignatureLayer.{SignatureLayer}
 use Rattle.recorded_case.specs.Policy.{constraint_by, constraints_by}
 use Rattle.recorded_case.specs.declared.constraint.WrittenConstraint.{WrittenConstraint}
-use Rattle.recorded_case.specs.declared.constraint.WrittenConstraint.TheVariants.{Annotations, Email, Url}
+use Rattle.recorded_case.specs.declared.constraint.WrittenConstraint.TheVariants.{Annotations, Email, Url, Statements}
 
 pub no_item_same : (V W : Type 0) (H : V → Type 0) (I : W → Type 0) (written : List WrittenConstraint)
     → has_no_item (constraints_by {V = V} {H = H} written) ≡ has_no_item (constraints_by {V = W} {H = I} written)
@@ -21,6 +21,7 @@ module _ (V W : Type 0) (H : V → Type 0) (I : W → Type 0) (own : CustomVerdi
   accepts_same (Annotations asked) = refl
   accepts_same (Email asked) = refl
   accepts_same (Url asked) = refl
+  accepts_same (Statements types) = refl
 
   all_same : (written : List WrittenConstraint)
       → list_all (λ c. accepts {V = V} {H = H} own c layer) (constraints_by written)

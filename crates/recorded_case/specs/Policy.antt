@@ -16,6 +16,7 @@ abbrev pub constraint_by : {V : Type 0} {H : V → Type 0} → WrittenConstraint
 constraint_by (written.Annotations asked) = constraint.Annotations asked
 constraint_by (written.Email asked) = constraint.Email asked
 constraint_by (written.Url asked) = constraint.Url asked
+constraint_by (written.Statements types) = constraint.Statements types
 
 -- these constraints, in order
 abbrev pub constraints_by : {V : Type 0} {H : V → Type 0} → List WrittenConstraint → List (Constraint V H)

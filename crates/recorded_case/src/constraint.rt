@@ -8,13 +8,15 @@ ghost use Rattle.recorded_case.specs.Constraint.{annotations_of, email_of, subje
 ghost use Rattle.recorded_case.specs.Members.{null_or};
 
 use crate::entries::Entry;
-use cosign_layers::{AnnotationVerifier, CertSubjectEmailVerifier, CertSubjectUrlVerifier};
+use cosign_layers::{
+    AnnotationVerifier, CertSubjectEmailVerifier, CertSubjectUrlVerifier, StatementVerifier,
+};
 use json_tables::{ReadError, Reads, only, required};
 use json_values::{Copied, Text};
 use serde_json::Value;
 use std::alloc::{AllocError, Global};
 
-/// A constraint of a policy that can be written in a case.
+/// A constraint of a policy, as it is written.
 #[derive(Drop)]
 pub enum WrittenConstraint {
     /// `{"annotations": {name: text}}`
@@ -23,6 +25,8 @@ pub enum WrittenConstraint {
     Email(CertSubjectEmailVerifier),
     /// `{"url": text, "issuer": text}`
     Url(CertSubjectUrlVerifier),
+    /// Which statements a bundle may sign: a member of a live pull's settings, and of no case.
+    Statements(StatementVerifier),
 }
 
 impl Entry for WrittenConstraint {
@@ -105,6 +109,9 @@ impl Copied for WrittenConstraint {
             )?),
             WrittenConstraint::Email(asked) => WrittenConstraint::Email(asked.copy(alloc)?),
             WrittenConstraint::Url(asked) => WrittenConstraint::Url(asked.copy(alloc)?),
+            WrittenConstraint::Statements(asked) => WrittenConstraint::Statements(asked.copy(
+                alloc,
+            )?),
         })
     }
 }

@@ -1,5 +1,5 @@
 // A shelf's transport without faults so far.
-ghost use Rattle.std.specs.Prelude.{◌≡◌, [], IsTrue, Some, false};
+ghost use Rattle.std.specs.Prelude.{◌≡◌, [], IsTrue, Some, true, false};
 ghost use Rattle.oci_transport.specs.FaultsOnlyWhere.{faults_only_where};
 ghost use Rattle.oci_link.specs.Leads.{redirects_lead};
 ghost use Rattle.oci_link.specs.State.{answering, shelf_of, state_of};
@@ -23,6 +23,7 @@ impl FaultlessShelf {
         requires { IsTrue (redirects_lead shelf) }
         ensures told { (state_of result.transport).told ≡ Some [] }
         ensures faults { (state_of result.transport).faults ≡ 0 }
+        ensures exact { (state_of result.transport).exact ≡ true }
         ensures table { (state_of result.transport).answers ≡ Some (answering shelf) }
         ensures shelf { shelf_of result.transport ≡ shelf }
     {
@@ -41,7 +42,7 @@ impl FaultlessShelf {
 }
 
 impl Transport for FaultlessShelf {
-    ghost use Rattle.std.specs.Prelude.{◌≤◌, IfOk, IsErrOf};
+    ghost use Rattle.std.specs.Prelude.{◌≤◌, IfOk, OnErr, IsErrOf};
     ghost use Rattle.oci_transport.specs.Link.{Answers, AddsAtMost, Takes, Steady};
     ghost use Rattle.recorded_case.specs.Replay.{quiet_state_of};
 
@@ -63,6 +64,8 @@ impl Transport for FaultlessShelf {
         ensures steady { Steady (quiet_state_of self.old) (quiet_state_of self.new) }
         ensures count { (quiet_state_of self.old).faults ≤ (quiet_state_of self.new).faults }
         ensures taken { IfOk result (λ piece. Takes piece (quiet_state_of self.old) (quiet_state_of self.new)) }
+        ensures none_returned { OnErr result
+            ((quiet_state_of self.new).pieces ≡ (quiet_state_of self.old).pieces) }
         ensures never_fails { IsErrOf result LinkError.Failed → ⊥ }
     {
         self.transport.piece(alloc)

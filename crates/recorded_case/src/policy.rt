@@ -29,5 +29,6 @@ fn constraint_from(alloc: Global, written: &WrittenConstraint) -> Result<Constra
         WrittenConstraint::Annotations(asked) => Ok(Constraint::Annotations(asked.copy(alloc)?)),
         WrittenConstraint::Email(asked) => Ok(Constraint::Email(asked.copy(alloc)?)),
         WrittenConstraint::Url(asked) => Ok(Constraint::Url(asked.copy(alloc)?)),
+        WrittenConstraint::Statements(asked) => Ok(Constraint::Statements(asked.copy(alloc)?)),
     }
 }

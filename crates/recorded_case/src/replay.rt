@@ -1,5 +1,5 @@
 // A transport that responds as a case says.
-ghost use Rattle.std.specs.Prelude.{◌≡◌, [], IsTrue, Some};
+ghost use Rattle.std.specs.Prelude.{◌≡◌, [], true, IsTrue, Some};
 ghost use Rattle.oci_transport.specs.FaultsOnlyWhere.{faults_only_where};
 ghost use Rattle.recorded_case.specs.Registry.{Leads, answering_by};
 ghost use Rattle.recorded_case.specs.Replay.{answering_of, state_of};
@@ -26,6 +26,7 @@ impl Replay {
         requires { Leads registry }
         ensures told { (state_of result).told ≡ Some [] }
         ensures faults { (state_of result).faults ≡ 0 }
+        ensures exact { (state_of result).exact ≡ true }
         ensures table { (state_of result).answers ≡ Some (answering_by registry) }
     {
         match registry {
@@ -48,7 +49,7 @@ impl Replay {
 }
 
 impl Transport for Replay {
-    ghost use Rattle.std.specs.Prelude.{◌≤◌, IfOk, OnOk, IsErrOf};
+    ghost use Rattle.std.specs.Prelude.{◌≤◌, IfOk, OnOk, OnErr, IsErrOf};
     ghost use Rattle.json_values.specs.Counts.{Increased};
     ghost use Rattle.oci_transport.specs.Link.{Answers, AddsUnanswered, AddsAtMost, LeavesRest, Takes, Steady};
     ghost use Rattle.recorded_case.specs.Replay.{state_of, IsUnanswered, FaultIsNext};
@@ -81,6 +82,7 @@ impl Transport for Replay {
         ensures steady { Steady (state_of self.old) (state_of self.new) }
         ensures count { (state_of self.old).faults ≤ (state_of self.new).faults }
         ensures taken { IfOk result (λ piece. Takes piece (state_of self.old) (state_of self.new)) }
+        ensures none_returned { OnErr result ((state_of self.new).pieces ≡ (state_of self.old).pieces) }
         ensures fault { IsErrOf result LinkError.Failed
             → Increased (state_of self.old).faults (state_of self.new).faults }
         ensures met { IsErrOf result LinkError.Failed → FaultIsNext self.old }

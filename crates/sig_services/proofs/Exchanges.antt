@@ -29,7 +29,7 @@ module _ {E : Type 0} (is_memory : E → Bool) (link too_long : E) where
   pub failed : (limit : ℕ) (request : Request) (head : AnswerHead) (last : Request) (old mid new : Link) → is_memory link ≡ false → Reaches 0 request head last old mid → mid.faults ≤ new.faults → new.told ≡ mid.told → Steady mid new → Increased mid.faults new.faults
       → (k : Unit {0}) → Meets is_memory (whole link too_long limit request) old new k k (Err link)
   unfolding whole
-  failed limit request head last old mid new other reach le same steady rose k = reached_failed 0 request (read_within limit) (whole_reply link too_long) head last reach le same steady rose (Meets-err is_memory new k link other)
+  failed limit request head last old mid new other reach le same steady rose k = reached_failed 0 request (read_within limit) (whole_reply link too_long) head last limit reach (within limit head) le same steady rose (Meets-err is_memory new k link other)
 
   pub wanting_body : (limit : ℕ) (request : Request) (head : AnswerHead) (last : Request) (old mid new : Link) (memory : E) → is_memory memory ≡ true → Reaches 0 request head last old mid → mid.faults ≤ new.faults → new.told ≡ mid.told → Steady mid new
       → (k : Unit {0}) → Meets is_memory (whole link too_long limit request) old new k k (Err memory)

@@ -14,7 +14,7 @@ use Rattle.service_models.specs.declared.certificate_request.KeyAlgorithm.{KeyAl
 use Rattle.service_models.specs.declared.certificate.SigningCertificate.{SigningCertificate}
 use Rattle.service_models.specs.declared.certificate.SigningCertificate.TheVariants.{SignedCertificateDetachedSct}
 use Rattle.service_models.specs.declared.certificate.SigningCertificate.TheVariants.{SignedCertificateEmbeddedSct}
-use Rattle.oci_transport.specs.Headers.{Fields}
+use Rattle.oci_transport.specs.Headers.{Fields, with_header}
 use Rattle.oci_transport.specs.declared.message.Request.{Request}
 use Rattle.oci_transport.specs.declared.message.Answer.{Answer}
 use Rattle.oci_transport.specs.declared.message.Method.TheVariants.{Post}
@@ -22,7 +22,6 @@ use Rattle.oci_protocol.specs.Proto as protocol
 use Rattle.oci_protocol.specs.Proto.{Done}
 use Rattle.sig_services.specs.Body.{text_body}
 use Rattle.sig_services.specs.Exchange.{Row, whole}
-use Rattle.sig_services.specs.Headers.{with_header}
 use Rattle.service_models.specs.Token.{token_of}
 use Rattle.sig_services.specs.declared.client.FulcioClient.{FulcioClient}
 use Rattle.sig_services.specs.declared.client.FulcioCert.{FulcioCert}

@@ -1,6 +1,5 @@
 -- Why a call to Fulcio failed.
-use Rattle.std.specs.Prelude.{ℕ, List, codes, Bool, true, false, Result}
-use Rattle.json_values.specs.Refusals as Refusals
+use Rattle.std.specs.Prelude.{ℕ, List, codes, Bool, true, false}
 use Rattle.sig_services.specs.declared.fulcio_error.FulcioError.{FulcioError}
 use Rattle.sig_services.specs.declared.fulcio_error.FulcioError.TheVariants.{Link, BodyTooLong, Url, Header, Json}
 use Rattle.sig_services.specs.declared.fulcio_error.FulcioError.TheVariants.{ChainTooShort, WantOfMemory}
@@ -9,10 +8,6 @@ use Rattle.sig_services.specs.declared.fulcio_error.FulcioError.TheVariants.{Cha
 abbrev pub is_memory : FulcioError → Bool
 is_memory WantOfMemory = true
 is_memory _ = false
-
--- the result of a step without a request, or out of memory
-abbrev pub Matches : {A : Type 0} → Result A FulcioError → Result A FulcioError → Type 0
-Matches answer said = Refusals.Matches is_memory answer said
 
 -- what is printed: what was refused, and what to do
 abbrev pub message_of : FulcioError → List ℕ

@@ -10,7 +10,6 @@ pub mod Entries
 pub mod Error
 pub mod Exchange
 pub mod FulcioError
-pub mod Headers
 pub mod Index
 pub mod Log
 pub mod Request

@@ -5,11 +5,10 @@ use Rattle.url.specs.Parts.{Parts, serialize}
 use Rattle.form_urlencoded.specs.Form.{extend_pairs}
 use Rattle.json_values.specs.Refusals.{◌>>=◌}
 use Rattle.json_tables.specs.Reading as option
-use Rattle.oci_transport.specs.Headers.{Fields}
+use Rattle.oci_transport.specs.Headers.{Fields, with_header}
 use Rattle.oci_transport.specs.Urls.{request_url}
 use Rattle.oci_transport.specs.declared.message.Request.{Request}
 use Rattle.oci_transport.specs.declared.message.Method.{Method}
-use Rattle.sig_services.specs.Headers.{with_header}
 use Rattle.sig_services.specs.declared.configuration.Configuration.{Configuration}
 use Rattle.sig_services.specs.declared.error.Error.{Error}
 use Rattle.sig_services.specs.declared.error.Error.TheVariants.{Url, Header}

@@ -2,7 +2,8 @@
 ghost use Rattle.std.specs.Prelude.{◌≡◌, IfOk};
 ghost use Rattle.serde_json.specs.View.{view};
 ghost use Rattle.oci_protocol.specs.Runs.{Meets};
-ghost use Rattle.sig_services.specs.Error.{is_memory, Matches};
+ghost use Rattle.json_values.specs.Refusals.{Matches};
+ghost use Rattle.sig_services.specs.Error.{is_memory};
 ghost use Rattle.sig_services.specs.Call.{is_refusal, entity_in, judged, call, IsCompact};
 
 use crate::body::Body;
@@ -68,7 +69,7 @@ fn entity_in<E: Entity>(alloc: Global, body: &[u8]) -> Result<Option<E>, AllocEr
 }
 
 fn judged<X: Body, E: Entity>(alloc: Global, answer: Answer) -> Result<X, Error<E>>
-    ensures { Matches result (judged X.body E.entity answer) }
+    ensures { Matches is_memory result (judged X.body E.entity answer) }
 {
     let Answer { status, body, .. } = answer;
     if is_refusal(status) {

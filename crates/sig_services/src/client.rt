@@ -4,7 +4,8 @@ ghost use Rattle.serde_json.specs.Written.{compact_text};
 ghost use Rattle.oci_protocol.specs.Runs.{Meets};
 ghost use Rattle.service_models.specs.CertificateRequest.{request_written, signing_request_written};
 ghost use Rattle.sig_services.specs.Client.{asked, certificate_in, headers_of, joined};
-ghost use Rattle.sig_services.specs.FulcioError.{Matches, is_memory};
+ghost use Rattle.json_values.specs.Refusals.{Matches};
+ghost use Rattle.sig_services.specs.FulcioError.{is_memory};
 ghost use Rattle.sig_services.specs.Client.{parted, request_of, response_in, response_of};
 ghost use Rattle.sig_services.specs.AuthorityCauses.{AuthorityRefusedFor};
 ghost use Rattle.sig_services.specs.Client as row;
@@ -14,10 +15,9 @@ use crate::body::Body;
 use crate::call::compact;
 use crate::exchange::exchange;
 use crate::fulcio_error::FulcioError;
-use crate::headers::with_header;
 use json_tables::read_plain;
 use json_values::{Blob, Copied, List, Text, ToValue, copied};
-use oci_transport::{Answer, Headers, Method, Request, Transport};
+use oci_transport::{Answer, Headers, Method, Request, Transport, with_header};
 use service_models::{
     CertificateChain, CertificateRequest, CreateSigningCertificateRequest, KeyAlgorithm,
     SigningCertificate, SigningCertificateDetachedSCT, TokenProvider,
@@ -86,7 +86,7 @@ impl fmt::Display for FulcioCert {
 }
 
 fn joined(alloc: Global, root: &Url, path: &str) -> Result<Url, FulcioError>
-    ensures { Matches result (joined root.now path.now) }
+    ensures { Matches is_memory result (joined root.now path.now) }
 {
     match root.join(path) {
         Ok(url) => Ok(url),
@@ -108,7 +108,7 @@ fn with_accept(headers: Headers, accept: Option<&str>) -> Result<Option<Headers>
     ensures { IfOk result (λ more. more ≡ row.with_accept (option_copied accept.entry) headers) }
 {
     match accept {
-        Some(accept) => with_header(headers, "accept", accept),
+        Some(accept) => with_header(headers, "accept", accept.as_bytes()),
         None => Ok(Some(headers)),
     }
 }
@@ -122,10 +122,11 @@ fn headers_with(
     ensures { IfOk result (λ headers. headers
         ≡ row.headers_with credentials.now (option_copied accept.entry)) }
 {
-    let Some(headers) = with_header(Headers::new(alloc), "authorization", credentials)? else {
+    let Some(headers) = with_header(Headers::new(alloc), "authorization", credentials.as_bytes())?
+    else {
         return Ok(None);
     };
-    let Some(headers) = with_header(headers, "content-type", "application/json")? else {
+    let Some(headers) = with_header(headers, "content-type", b"application/json")? else {
         return Ok(None);
     };
     let headers = with_accept(headers, accept)?;
@@ -133,7 +134,7 @@ fn headers_with(
 }
 
 fn headers_of(alloc: Global, token: &str, accept: Option<&str>) -> Result<Headers, FulcioError>
-    ensures { Matches result (headers_of token.now (option_copied accept.entry)) }
+    ensures { Matches is_memory result (headers_of token.now (option_copied accept.entry)) }
 {
     let credentials = bearer(alloc, token)?;
     match headers_with(alloc, credentials.as_str(), accept)? {
@@ -151,7 +152,7 @@ fn request_of(
     accept: Option<&str>,
     body: Blob,
 ) -> Result<Request, FulcioError>
-    ensures { Matches result
+    ensures { Matches is_memory result
         (request_of root.now path.now token.now (option_copied accept.entry) body) }
 {
     let url = joined(alloc, root, path)?;
@@ -186,7 +187,7 @@ fn asked<T: Transport>(
 }
 
 fn certificate_in(alloc: Global, answer: Answer) -> Result<FulcioCert, FulcioError>
-    ensures { Matches result (certificate_in answer.body) }
+    ensures { Matches is_memory result (certificate_in answer.body) }
 {
     match Text::from_body(alloc, answer.body.as_slice())? {
         Some(text) => Ok(FulcioCert { text }),
@@ -206,7 +207,7 @@ fn copies(alloc: Global, certificates: &[Text]) -> Result<List<Text>, AllocError
 
 // Returns the first certificate, and the others.
 fn parted(alloc: Global, chain: &CertificateChain) -> Result<(Text, List<Text>), FulcioError>
-    ensures { Matches result (parted chain.now.certificates) }
+    ensures { Matches is_memory result (parted chain.now.certificates) }
 {
     let Some((first, others)) = chain.certificates.as_slice().split_first() else {
         return Err(FulcioError::ChainTooShort);
@@ -223,7 +224,7 @@ fn response_of(
     alloc: Global,
     certificate: SigningCertificate,
 ) -> Result<CertificateResponse, FulcioError>
-    ensures { Matches result (response_of certificate) }
+    ensures { Matches is_memory result (response_of certificate) }
 {
     match certificate {
         SigningCertificate::SignedCertificateDetachedSct(signed) => {
@@ -246,7 +247,7 @@ fn response_of(
 }
 
 fn response_in(alloc: Global, answer: Answer) -> Result<CertificateResponse, FulcioError>
-    ensures { Matches result (response_in answer.body) }
+    ensures { Matches is_memory result (response_in answer.body) }
 {
     let Some(certificate) = read_plain(alloc, answer.body.as_slice())? else {
         return Err(FulcioError::Json(answer.body));

@@ -10,7 +10,6 @@ mod entries;
 mod error;
 mod exchange;
 mod fulcio_error;
-mod headers;
 mod index;
 mod log;
 pub mod models;

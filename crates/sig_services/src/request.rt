@@ -1,16 +1,16 @@
 // Requests to Rekor.
 ghost use Rattle.std.specs.Prelude.{◌≡◌, IfOk};
 ghost use Rattle.form_urlencoded.specs.Form.{byte_serialize};
-ghost use Rattle.sig_services.specs.Error.{Matches};
+ghost use Rattle.json_values.specs.Refusals.{Matches};
+ghost use Rattle.sig_services.specs.Error.{is_memory};
 ghost use Rattle.sig_services.specs.Request.{address, with_agent, with_type};
 ghost use Rattle.sig_services.specs.Request.{headers_sent, headers_of, request_of, url_of};
 
 use crate::configuration::Configuration;
 use crate::error::Error;
-use crate::headers::with_header;
 use form_urlencoded::Serializer;
 use json_values::{Blob, Text};
-use oci_transport::{Headers, Method, Request, UrlError, request_url};
+use oci_transport::{Headers, Method, Request, UrlError, request_url, with_header};
 use std::alloc::{AllocError, Global};
 use url::Url;
 
@@ -34,7 +34,7 @@ fn address(alloc: Global, base: &str, path: &str) -> Result<Text, AllocError>
 }
 
 fn url_of<E>(alloc: Global, text: Text) -> Result<Url, Error<E>>
-    ensures { Matches result (url_of text) }
+    ensures { Matches is_memory result (url_of text) }
 {
     match request_url(alloc, text.as_str()) {
         Ok(url) => Ok(url),
@@ -47,7 +47,7 @@ fn with_agent(headers: Headers, agent: &Option<Text>) -> Result<Option<Headers>,
     ensures { IfOk result (λ more. more ≡ with_agent agent.now headers) }
 {
     match agent {
-        Some(agent) => with_header(headers, "user-agent", agent.as_str()),
+        Some(agent) => with_header(headers, "user-agent", agent.as_str().as_bytes()),
         None => Ok(Some(headers)),
     }
 }
@@ -56,7 +56,7 @@ fn with_type(headers: Headers, content: &Option<Blob>) -> Result<Option<Headers>
     ensures { IfOk result (λ more. more ≡ with_type content.now headers) }
 {
     match content {
-        Some(_) => with_header(headers, "content-type", "application/json"),
+        Some(_) => with_header(headers, "content-type", b"application/json"),
         None => Ok(Some(headers)),
     }
 }
@@ -79,7 +79,7 @@ fn headers_of<E>(
     agent: &Option<Text>,
     content: &Option<Blob>,
 ) -> Result<Headers, Error<E>>
-    ensures { Matches result (headers_of agent.now content.now) }
+    ensures { Matches is_memory result (headers_of agent.now content.now) }
 {
     match headers_sent(alloc, agent, content)? {
         Some(headers) => Ok(headers),
@@ -102,7 +102,7 @@ pub(crate) fn request_of<E>(
     path: &str,
     content: Option<Blob>,
 ) -> Result<Request, Error<E>>
-    ensures { Matches result (request_of configuration.now method path.now content) }
+    ensures { Matches is_memory result (request_of configuration.now method path.now content) }
 {
     let text = address(alloc, configuration.base_path.as_str(), path)?;
     let url = url_of(alloc, text)?;

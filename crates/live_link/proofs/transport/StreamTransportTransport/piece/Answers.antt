@@ -16,4 +16,4 @@ invariant_of-self-in_default-piece g c = record {
 }
 
 pub returns-clause-taken : goal.returns-clause-taken
-returns-clause-taken g c = takes_unknown _ _ _ refl (takes_part (g.S.Source.state c.args.self.now.source) (g.S.Source.state c.ask_piece-stage.new.source) (g.K.Sink.state c.args.self.now.sink) (g.K.Sink.state c.ask_piece-stage.new.sink) c.args.self.now.stage c.ask_piece-stage.result c.in-Some.piece c.in-Open.is c.ask_piece-stage.ensures c.in-Some.is)
+returns-clause-taken g c = takes_unknown _ _ _ refl refl (λ h. refl) (takes_part (g.S.Source.state c.args.self.now.source) (g.S.Source.state c.ask_piece-stage.new.source) (g.K.Sink.state c.args.self.now.sink) (g.K.Sink.state c.ask_piece-stage.new.sink) c.args.self.now.stage c.ask_piece-stage.result c.in-Some.piece c.in-Open.is c.ask_piece-stage.ensures c.in-Some.is)

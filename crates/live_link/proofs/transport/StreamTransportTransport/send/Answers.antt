@@ -24,5 +24,5 @@ returns-clause-answered g c =
     c.and-self.ensures one c.ask_request-stage.ensures c.args.self.now.spoken in
     let opened = opens c.args.request.now c.args.self.now.stage c.ask_request-stage.result (g.S.Source.state c.args.self.now.source) (g.S.Source.state c.ask_request-stage.new.source) (g.K.Sink.state c.args.self.now.sink) (g.K.Sink.state c.ask_request-stage.new.sink) c.in-Some.head c.ask_request-stage.ensures c.in-Some.is in
     told_answered g.S.Source.state g.K.Sink.state c.args.self.now.began.items c.args.self.now.heard.items c.and-self.result.items c.ask_request-stage.new.source c.and-entry.result c.args.request.now c.ask_request-stage.result.1 c.in-Some.head c.ask_request-stage.result.0 _ _
-    c.and-self.ensures one c.in-Some.is refl refl refl opened refl
+    c.and-self.ensures one c.in-Some.is refl refl refl refl refl opened refl
     (λ before told. tells g.S.Source.state g.K.Sink.state c.args.self.now.began.items c.ask_request-stage.new.source c.ask_request-stage.new.sink c.ask_request-stage.result.0 (exchanges_by g.S.Source.state c.and-self.result.items) (exchanges_by g.S.Source.state c.args.self.now.heard.items) before holds told)
