@@ -1,10 +1,11 @@
--- Media types (OCI image specification, media-types.md, Docker's image manifest V2, schema 2, sigstore bundle v0.3).
+-- Media types (OCI image specification, media-types.md; Docker image manifest V2, schema 2; cosign; sigstore bundle).
 use Rattle.std.specs.Prelude.{◌≡◌, codes}
 use Rattle.oci_descriptors.specs.declared.layer_types.TheConstants as layer
 use Rattle.oci_descriptors.specs.declared.media_types.TheConstants as media
 use Rattle.engine_requests.specs.Requests.{manifest_types}
 use Rattle.engine_requests.specs.declared.requests.TheConstants as request
 use Rattle.cosign_parts.specs.declared.bundle.TheConstants as bundles
+use Rattle.cosign_parts.specs.declared.payload.TheConstants as payloads
 
 -- of manifests, indexes and configurations
 pub record MediaTypesAre : Type 0 where
@@ -18,7 +19,7 @@ pub record MediaTypesAre : Type 0 where
   pub oci_config : media.IMAGE_CONFIG_MEDIA_TYPE.now ≡ codes "application/vnd.oci.image.config.v1+json"
   pub docker_config : media.IMAGE_DOCKER_CONFIG_MEDIA_TYPE.now ≡ codes "application/vnd.docker.container.image.v1+json"
 
--- of layers, and of bundles
+-- of layers, payloads and bundles
 pub record LayerTypesAre : Type 0 where
   pub wasm_layer : layer.WASM_LAYER_MEDIA_TYPE.now ≡ codes "application/vnd.wasm.content.layer.v1+wasm"
   pub oci_layer : layer.IMAGE_LAYER_MEDIA_TYPE.now ≡ codes "application/vnd.oci.image.layer.v1.tar"
@@ -30,6 +31,7 @@ pub record LayerTypesAre : Type 0 where
       ≡ codes "application/vnd.oci.image.layer.nondistributable.v1.tar"
   pub nondistributable_layer_gzip : layer.IMAGE_LAYER_NONDISTRIBUTABLE_GZIP_MEDIA_TYPE.now
       ≡ codes "application/vnd.oci.image.layer.nondistributable.v1.tar+gzip"
+  pub simple_signing : payloads.SIMPLE_SIGNING_TYPE.now ≡ codes "application/vnd.dev.cosign.simplesigning.v1+json"
   pub bundle : bundles.BUNDLE_TYPE.now ≡ codes "application/vnd.dev.sigstore.bundle.v0.3+json"
 
 -- of a request for a manifest or an index: the constant is the list that the definitions write out

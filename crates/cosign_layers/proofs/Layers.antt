@@ -4,7 +4,8 @@ use Rattle.std.specs.Prelude.{MatchBool}
 use Rattle.cosign_layers.specs.Checks.{Input, Spelled, content_checked, signature_checked, entry_checked, certificate_checked, layer_with, layer_read}
 use Rattle.cosign_parts.specs.Layer.{IsSignature, IsEntry, IsCertificate, LayerOf, IsAboutImage}
 use Rattle.cosign_layers.specs.Read.{IsAbout, ContentRejected, SignatureRejected, EntryRejected, CertificateRejected, Rejected, RejectedUnlessMemory, input_of, Gives, HasOneOutcome}
-use Rattle.cosign_layers.specs.Rejection.{Matches, is_memory}
+use Rattle.json_values.specs.Refusals.{Matches}
+use Rattle.cosign_layers.specs.Rejection.{is_memory}
 use Rattle.cosign_parts.specs.Shown.{is_about}
 use Rattle.cosign_parts.specs.Trust.{Trust, knows_no_log}
 use Rattle.cosign_parts.specs.declared.certificate.CertificateSignature.{CertificateSignature}
@@ -152,11 +153,11 @@ module _ (trust : Trust) (d : List ℕ) where
     one_rejection = λ x y g h. err_same x y (sym ((decided input).rejects x g) ∙ (decided input).rejects y h);
   }
 
-  pub gives : (input : Input) (r : Result SignatureLayer LayerRejection) → Matches r (layer_read trust d input) → IfOk r (Gives trust d input)
+  pub gives : (input : Input) (r : Result SignatureLayer LayerRejection) → Matches is_memory r (layer_read trust d input) → IfOk r (Gives trust d input)
   gives input (Ok layer) says = (decided input).passed layer says
   gives input (Err x) says = tt
 
-  pub rejects : (input : Input) (r : Result SignatureLayer LayerRejection) → Matches r (layer_read trust d input) → IfErr r (RejectedUnlessMemory trust d input)
+  pub rejects : (input : Input) (r : Result SignatureLayer LayerRejection) → Matches is_memory r (layer_read trust d input) → IfErr r (RejectedUnlessMemory trust d input)
   rejects input (Ok layer) says = tt
   rejects input (Err x) says = by_memory (is_memory x) says where
     by_memory : (b : Bool) → MatchBool b (Unit {0}) (layer_read trust d input ≡ Err x) → MatchBool b (Unit {0}) (Rejected trust d input x)

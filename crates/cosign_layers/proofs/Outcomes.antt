@@ -3,7 +3,8 @@ use Rattle.std.proofs.Common.{◌≡◌, ◌⊎◌, inl, inr, Bool, true, false,
 use Rattle.cosign_layers.specs.Checks.{unless}
 use Rattle.std.specs.Prelude.{MatchBool}
 use Rattle.std.specs.Result.{IsErrAnd}
-use Rattle.cosign_layers.specs.Rejection.{◌>>=◌, Matches, is_memory}
+use Rattle.json_values.specs.Refusals.{◌>>=◌, Matches}
+use Rattle.cosign_layers.specs.Rejection.{is_memory}
 use Rattle.cosign_layers.specs.declared.rejection.LayerRejection.{LayerRejection}
 use Rattle.cosign_layers.specs.declared.rejection.LayerRejection.TheVariants.{WantOfMemory}
 
@@ -117,20 +118,16 @@ refused x = record {
 
 -- ---- steps of a function
 
--- a step that returned `Ok`, and what comes after it
-pub after : {A B : Type 0} (step : Result A LayerRejection) (f : A → Result B LayerRejection) (a : A) (r : Result B LayerRejection) → step ≡ Ok a → Matches r (f a) → Matches r (step >>= f)
-after step f a r is says = subst (λ s. Matches r (s >>= f)) (sym is) says
-
 refused_later : {A B : Type 0} (step : Result A LayerRejection) (f : A → Result B LayerRejection) (x : LayerRejection) (b : Bool) → MatchBool b (Unit {0}) (step ≡ Err x) → MatchBool b (Unit {0}) ((step >>= f) ≡ Err x)
 refused_later step f x true h = tt
 refused_later step f x false h = ap (λ s. s >>= f) h
 
 -- a step that returned an error, at the exit of a `?`
-pub stopped : {A B : Type 0} (step : Result A LayerRejection) (f : A → Result B LayerRejection) (x : LayerRejection) (r : Result B LayerRejection) → MatchBool (is_memory x) (Unit {0}) (step ≡ Err x) → IsErrAnd r (λ y. y ≡ x) → Matches r (step >>= f)
+pub stopped : {A B : Type 0} (step : Result A LayerRejection) (f : A → Result B LayerRejection) (x : LayerRejection) (r : Result B LayerRejection) → MatchBool (is_memory x) (Unit {0}) (step ≡ Err x) → IsErrAnd r (λ y. y ≡ x) → Matches is_memory r (step >>= f)
 stopped step f x (Ok b) h is = absurd is
 stopped step f x (Err y) h is = subst (λ z. MatchBool (is_memory z) (Unit {0}) ((step >>= f) ≡ Err z)) (sym is) (refused_later step f x (is_memory x) h)
 
 -- memory ran out between two steps
-pub wanting : {A : Type 0} (said r : Result A LayerRejection) → IsErrAnd r (λ y. y ≡ WantOfMemory) → Matches r said
+pub wanting : {A : Type 0} (said r : Result A LayerRejection) → IsErrAnd r (λ y. y ≡ WantOfMemory) → Matches is_memory r said
 wanting said (Ok a) is = absurd is
 wanting said (Err y) is = subst (λ z. MatchBool (is_memory z) (Unit {0}) (said ≡ Err z)) (sym is) tt

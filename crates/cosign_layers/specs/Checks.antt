@@ -7,7 +7,7 @@ use Rattle.base64.specs.GeneralPurpose.{decoded_of}
 use Rattle.oci_digests.specs.Names.{names}
 use Rattle.cosign_parts.specs.Layer.{is_logged, evidence}
 use Rattle.cosign_parts.specs.LogEntry.{log_text}
-use Rattle.cosign_layers.specs.Rejection.{◌>>=◌}
+use Rattle.json_values.specs.Refusals.{◌>>=◌}
 use Rattle.cosign_parts.specs.Shown.{Notes, shown, is_about}
 use Rattle.cosign_parts.specs.Trust.{Trust, Vouching, knows_no_log}
 use Rattle.cosign_parts.specs.declared.certificate.CertificateSignature.{CertificateSignature}

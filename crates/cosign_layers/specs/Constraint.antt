@@ -9,11 +9,12 @@ use Rattle.serde_json.specs.Data.{Data}
 use Rattle.serde_json.specs.Find.{get, as_str}
 use Rattle.cosign_parts.specs.declared.certificate.CertificateSignature.{CertificateSignature}
 use Rattle.cosign_layers.specs.declared.constraint.Constraint.{Constraint}
-use Rattle.cosign_layers.specs.declared.constraint.Constraint.TheVariants.{Annotations, Email, Url, Own}
+use Rattle.cosign_layers.specs.declared.constraint.Constraint.TheVariants.{Annotations, Email, Url, Statements, Own}
 use Rattle.cosign_parts.specs.declared.layer.SignatureLayer.{SignatureLayer}
 use Rattle.cosign_parts.specs.declared.layer.SimpleSigning.{SimpleSigning}
 use Rattle.cosign_layers.specs.declared.subject.CertSubjectEmailVerifier.{CertSubjectEmailVerifier}
 use Rattle.cosign_layers.specs.declared.subject.CertSubjectUrlVerifier.{CertSubjectUrlVerifier}
+use Rattle.cosign_layers.specs.Statement.{has_statement}
 use Rattle.cosign_layers.specs.Subject.{is_text, has_issuer}
 use Rattle.cosign_parts.specs.Items.{has_no_item}
 
@@ -42,4 +43,5 @@ abbrev pub accepts : {V : Type 0} {H : V → Type 0} → (DynBox V Global H → 
 accepts own (Annotations a) layer = has_annotations a.annotations layer.simple_signing
 accepts own (Email asked) layer = has_email asked layer.certificate_signature
 accepts own (Url asked) layer = has_url asked layer.certificate_signature
+accepts own (Statements types) layer = has_statement types layer.kind layer.content
 accepts own (Own b) layer = own b layer

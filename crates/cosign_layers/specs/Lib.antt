@@ -3,6 +3,7 @@ pub mod Constraint
 pub mod Read
 pub mod Rejection
 pub mod Satisfying
+pub mod Statement
 pub mod Subject
 pub use Rattle.cosign_parts.specs.Bundle
 pub use Rattle.cosign_parts.specs.Constants

@@ -4,7 +4,8 @@ ghost use Rattle.cosign_layers.specs.Checks.{came_from, certificate_checked, cer
 ghost use Rattle.cosign_layers.specs.Checks.{content_checked, entry_checked, entry_found, entry_verified};
 ghost use Rattle.cosign_layers.specs.Checks.{input_from, layer_read, layer_with, signature_checked};
 ghost use Rattle.cosign_parts.specs.Layer.{is_logged};
-ghost use Rattle.cosign_layers.specs.Rejection.{Matches};
+ghost use Rattle.json_values.specs.Refusals.{Matches};
+ghost use Rattle.cosign_layers.specs.Rejection.{is_memory};
 ghost use Rattle.cosign_parts.specs.Trust.{trust_of};
 
 use crate::rejection::{LayerPart, LayerRejection};
@@ -33,7 +34,7 @@ pub(crate) fn read_layer<V: SignatureVerifier, O: Offline>(
     source_digest: &str,
     trusted: &Trusted<'_, V, O>,
 ) -> Result<SignatureLayer, LayerRejection>
-    ensures { Matches result (layer_read (trust_of V.valid O.vouched trusted.now) source_digest.now
+    ensures { Matches is_memory result (layer_read (trust_of V.valid O.vouched trusted.now) source_digest.now
         (input_from pulled.now)) }
 {
     let shown = check_content(alloc, pulled, source_digest)?;
@@ -106,7 +107,7 @@ fn check_content(
     pulled: &Pulled<'_>,
     source_digest: &str,
 ) -> Result<Shown, LayerRejection>
-    ensures { Matches result (content_checked source_digest.now (input_from pulled.now)) }
+    ensures { Matches is_memory result (content_checked source_digest.now (input_from pulled.now)) }
 {
     if !names_digest(pulled.oci_digest, pulled.content.as_slice()) {
         return Err(LayerRejection::DigestMismatch);
@@ -123,7 +124,7 @@ fn check_content(
 
 // Returns the signature and the bytes that it decodes to.
 fn check_signature(alloc: Global, signature: &Option<Text>) -> Result<(Text, Blob), LayerRejection>
-    ensures { Matches result (signature_checked signature.now) }
+    ensures { Matches is_memory result (signature_checked signature.now) }
 {
     let Some(signature) = signature else {
         return Err(LayerRejection::NoSignature);
@@ -142,7 +143,7 @@ fn check_entry<V: SignatureVerifier, O: Offline>(
     trusted: &Trusted<'_, V, O>,
     found: &Found<LogEntryBundle>,
 ) -> Result<Option<LogEntryBundle>, LayerRejection>
-    ensures { Matches result (entry_checked (trust_of V.valid O.vouched trusted.now)
+    ensures { Matches is_memory result (entry_checked (trust_of V.valid O.vouched trusted.now)
         pulled.now.kind pulled.now.content.now signature.now found.now) }
 {
     if trusted.log_keys.entries().is_empty() {
@@ -166,7 +167,7 @@ fn verify_entry<V: SignatureVerifier, O: Offline>(
     trusted: &Trusted<'_, V, O>,
     entry: &LogEntryBundle,
 ) -> Result<Option<LogEntryBundle>, LayerRejection>
-    ensures { Matches result (entry_verified (trust_of V.valid O.vouched trusted.now)
+    ensures { Matches is_memory result (entry_verified (trust_of V.valid O.vouched trusted.now)
         pulled.now.kind pulled.now.content.now signature.now entry.now) }
 {
     let Some(key) = trusted.log_keys.get(entry.log_id.as_str()) else {
@@ -215,7 +216,7 @@ fn check_certificate<O: Offline>(
     entry: &Option<LogEntryBundle>,
     found: &Found<Blob>,
 ) -> Result<Option<CertificateSignature>, LayerRejection>
-    ensures { Matches result (certificate_checked (O.vouched judge.now) entry.now found.now) }
+    ensures { Matches is_memory result (certificate_checked (O.vouched judge.now) entry.now found.now) }
 {
     match found {
         Found::Absent => Ok(None),
@@ -234,7 +235,7 @@ fn vouch<O: Offline>(
     entry: &Option<LogEntryBundle>,
     certificate: &Blob,
 ) -> Result<Option<CertificateSignature>, LayerRejection>
-    ensures { Matches result (certificate_vouched (O.vouched judge.now) entry.now certificate.now) }
+    ensures { Matches is_memory result (certificate_vouched (O.vouched judge.now) entry.now certificate.now) }
 {
     let Some(entry) = entry else {
         return Err(LayerRejection::NoLogEntry);

@@ -5,6 +5,7 @@ ghost use Rattle.serde_json.specs.View.{view};
 ghost use Rattle.cosign_layers.specs.Constraint.{accepts as accepts_by, has_text_member};
 ghost use Rattle.cosign_parts.specs.declared.layer.SignatureLayer.{SignatureLayer};
 
+use crate::statement::StatementVerifier;
 use crate::subject::{CertSubjectEmailVerifier, CertSubjectUrlVerifier};
 use cosign_parts::SignatureLayer;
 use json_values::{Annotations, Copied, Text};
@@ -33,6 +34,7 @@ pub enum Constraint {
     Annotations(AnnotationVerifier),
     Email(CertSubjectEmailVerifier),
     Url(CertSubjectUrlVerifier),
+    Statements(StatementVerifier),
     /// A custom constraint, supplied by the caller.
     Own(Box<dyn VerificationConstraint>),
 }
@@ -45,6 +47,7 @@ impl Constraint {
             Constraint::Annotations(annotations) => annotations.verify(layer),
             Constraint::Email(email) => email.verify(layer),
             Constraint::Url(url) => url.verify(layer),
+            Constraint::Statements(statements) => statements.verify(layer),
             Constraint::Own(own) => own.verify(layer),
         }
     }

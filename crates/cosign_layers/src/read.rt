@@ -2,7 +2,8 @@
 ghost use Rattle.std.specs.Prelude.{IfOk, IfErr};
 ghost use Rattle.cosign_layers.specs.Checks.{input, layer_read};
 ghost use Rattle.cosign_layers.specs.Read.{Gives, HasOneOutcome, RejectedUnlessMemory};
-ghost use Rattle.cosign_layers.specs.Rejection.{Matches};
+ghost use Rattle.json_values.specs.Refusals.{Matches};
+ghost use Rattle.cosign_layers.specs.Rejection.{is_memory};
 ghost use Rattle.cosign_parts.specs.Trust.{trust};
 ghost use Rattle.cosign_parts.specs.declared.layer.LayerKind.TheVariants as kinds;
 
@@ -41,7 +42,7 @@ pub fn read_payload_layer<V: SignatureVerifier, O: Offline>(
     verifier: &V,
     judge: &O,
 ) -> Result<SignatureLayer, LayerRejection>
-    ensures exact { Matches result (layer_read
+    ensures exact { Matches is_memory result (layer_read
         (trust (V.valid verifier.now) (O.vouched judge.now) log_keys.now) source_digest.now
         (input kinds.Payload content.now oci_digest.now annotations.now)) }
     ensures gives { IfOk result (Gives
@@ -93,7 +94,7 @@ pub fn read_bundle_layer<V: SignatureVerifier, O: Offline>(
     verifier: &V,
     judge: &O,
 ) -> Result<SignatureLayer, LayerRejection>
-    ensures exact { Matches result (layer_read
+    ensures exact { Matches is_memory result (layer_read
         (trust (V.valid verifier.now) (O.vouched judge.now) log_keys.now) source_digest.now
         (input kinds.Bundle content.now oci_digest.now annotations.now)) }
     ensures gives { IfOk result (Gives

@@ -1,5 +1,5 @@
-pub mod Decimals
+pub mod Passed
+pub mod PlainTexts
 pub mod Ranges
-pub mod Rows
 pub mod Shows
 pub mod Texts

@@ -1,14 +1,14 @@
 -- The time and the index of an entry that is parsed are in the log's range.
 use Rattle.std.proofs.Common.{◌≡◌, inl, inr, ℕ, ℤ, pos, List, Bool, true, false, Option, Some, None, refl, sym, subst, codes}
-use Rattle.std.specs.Prelude.{if◌then◌else◌, int_lt}
-use Rattle.std.specs.Str.Parse.{digits_value}
+use Rattle.std.specs.Prelude.{if◌then◌else◌, int_lt, length, nat_le}
+use Rattle.json_values.specs.Decimals.{decimal_of}
 use Rattle.json_tables.specs.Reading.{◌>>=◌, i64_of, text_of}
 use Rattle.json_tables.specs.Member.{required}
 use Rattle.json_tables.specs.Bytes.{base64_of}
 use Rattle.hex.specs.Hex.{encode_lower}
 use Rattle.serde_json.specs.Data.{Data, null, boolean, number, string, array, object}
 use Rattle.serde_json.specs.Find.{get}
-use Rattle.cosign_parts.specs.LogEntry.{in_log, whole_of, is_decimal, decimal_of, whole_or_text_of, payload_entry_of, bundle_entry_of, IsInLog, InLog, EntriesAreInLog}
+use Rattle.cosign_parts.specs.LogEntry.{in_log, whole_of, short_decimal_of, whole_or_text_of, payload_entry_of, bundle_entry_of, IsInLog, InLog, EntriesAreInLog}
 use Rattle.cosign_parts.specs.declared.log_entry.LogEntryBundle.{LogEntryBundle}
 
 before : {A B : Type 0} (o : Option A) (f : A → Option B) (b : B) → (o >>= f) ≡ Some b → (a : A) × (o ≡ Some a) × (f a ≡ Some b)
@@ -29,11 +29,10 @@ in_range z y e = by_tests (int_lt z (pos 0)) (int_lt (pos 9007199254740991) z) e
 whole_in_range : (d : Data) (y : ℤ) → whole_of d ≡ Some y → IsInLog y
 whole_in_range d y e = let z = before (i64_of d) in_log y e in in_range z.0 y z.2
 
-decimal_in_range : (text : List ℕ) (y : ℤ) → decimal_of text ≡ Some y → IsInLog y
-unfolding decimal_of
-decimal_in_range text y e = by_test (is_decimal text) e where
-  by_test : (b : Bool) → (if b then in_log (pos (digits_value 10 text)) else None) ≡ Some y → IsInLog y
-  by_test true h = in_range (pos (digits_value 10 text)) y h
+decimal_in_range : (text : List ℕ) (y : ℤ) → short_decimal_of text ≡ Some y → IsInLog y
+decimal_in_range text y e = by_test (nat_le (length text) 16) e where
+  by_test : (b : Bool) → (if b then decimal_of text >>= (λ number. in_log (pos number)) else None) ≡ Some y → IsInLog y
+  by_test true h = let number = before (decimal_of text) (λ number. in_log (pos number)) y h in in_range (pos number.0) y number.2
   by_test false h = absurd (cc h)
 
 text_in_range : (d : Data) (y : ℤ) → whole_or_text_of d ≡ Some y → IsInLog y

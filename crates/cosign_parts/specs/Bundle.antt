@@ -1,5 +1,5 @@
 -- The contents of a bundle (sigstore bundle v0.3, in this project's profile).
-use Rattle.std.specs.Prelude.{ℕ, List, [], ◌∷◌, Bool, false, Option, Some, None, is_some, codes}
+use Rattle.std.specs.Prelude.{ℕ, List, [], ◌∷◌, Bool, false, Option, Some, None, is_some, option_map, codes}
 use Rattle.std.specs.FinMap.{get as digits_by}
 use Rattle.json_tables.specs.Bytes.{base64_of}
 use Rattle.json_tables.specs.Reading.{◌>>=◌, text_of, list_of, map_of}
@@ -12,6 +12,7 @@ use Rattle.serde_json.specs.Data.{Data, null, Items, no_items, item, array}
 use Rattle.serde_json.specs.Find.{get, as_array}
 use Rattle.cosign_parts.specs.LogEntry.{bundle_entry_of}
 use Rattle.cosign_parts.specs.Payload.{equal_to}
+use Rattle.cosign_parts.specs.declared.bundle.BundleParts.{BundleParts}
 use Rattle.cosign_parts.specs.declared.bundle.Envelope.{Envelope}
 use Rattle.cosign_parts.specs.declared.log_entry.LogEntryBundle.{LogEntryBundle}
 use Rattle.cosign_parts.specs.declared.shown.Found.{Found}
@@ -109,6 +110,21 @@ entry_in (Some d) = read_or_not (bundle_entry_of d)
 
 abbrev pub entry_at : Data → Found LogEntryBundle
 entry_at d = entry_in (promised_entry d)
+
+-- for private clauses: what a bundle holds, with the payload of its envelope
+abbrev pub held_with : Data → Envelope → BundleParts
+held_with d envelope = record {
+  payload = envelope.payload;
+  signature = signature_at d;
+  log_entry = entry_at d;
+  certificate = certificate_at d;
+}
+
+abbrev pub held_by : Data → Option BundleParts
+held_by d = option_map (held_with d) (envelope_of d)
+
+abbrev pub held_in : List ℕ → Option BundleParts
+held_in content = plain_json_of content >>= held_by
 
 -- whether the subject has these digits for this algorithm
 abbrev pub has_digits : Option (List ℕ × List ℕ) → Subject → Bool

@@ -7,5 +7,6 @@ pub mod Layer
 pub mod LogEntry
 pub mod Payload
 pub mod Shown
+pub mod Statement
 pub mod Trust
 pub mod Verifier

@@ -1,10 +1,8 @@
 -- Entries of a transparency log: how they are parsed, what the log signs of them, and which signature they log.
-use Rattle.std.specs.Prelude.{◌≡◌, ◌⊎◌, ℕ, ℤ, pos, List, [], ◌∷◌, Bool, ◌&&◌, IsTrue, nat_le, length, Option}
-use Rattle.std.specs.Prelude.{Some, None, is_some, Result, Ok, Err, codes, if◌then◌else◌}
+use Rattle.std.specs.Prelude.{◌≡◌, ◌⊎◌, ℕ, ℤ, pos, List, [], ◌∷◌, Bool, IsTrue, nat_le, length, Option}
+use Rattle.std.specs.Prelude.{Some, None, is_some, codes, if◌then◌else◌}
 use Rattle.std.specs.Fmt.{signed_decimal}
 use Rattle.std.specs.FinMap.{get as key_of}
-use Rattle.std.specs.List.{list_all}
-use Rattle.std.specs.Str.Parse.{digits_value}
 use Rattle.base64.specs.Engines.{standard}
 use Rattle.base64.specs.GeneralPurpose.{decoded_of}
 use Rattle.hex.specs.Hex.{encode_lower}
@@ -15,6 +13,7 @@ use Rattle.json_tables.specs.Reading.{◌>>=◌, text_of, i64_of, within}
 use Rattle.json_tables.specs.Paths.{text_at}
 use Rattle.json_tables.specs.Member.{required}
 use Rattle.json_values.specs.Canon.{quoted_text}
+use Rattle.json_values.specs.Decimals.{decimal_of}
 use Rattle.json_values.specs.JsonText.{json_of, plain_json_of}
 use Rattle.serde_json.specs.Data.{Data, unsigned, negative, string, number, object, no_members, member}
 use Rattle.serde_json.specs.Find.{get}
@@ -30,25 +29,13 @@ in_log z = within (pos 0) (pos 9007199254740991) z
 abbrev pub whole_of : Data → Option ℤ
 whole_of d = i64_of d >>= in_log
 
-abbrev pub is_digit : ℕ → Bool
-is_digit b = nat_le 48 b && nat_le b 57
-
--- 1 to 16 decimal digits
-abbrev pub is_decimal : List ℕ → Bool
-is_decimal text = nat_le 1 (length text) && nat_le (length text) 16 && list_all is_digit text
-
 -- the number that 1 to 16 decimal digits denote
-unfoldable pub decimal_of : List ℕ → Option ℤ
-decimal_of text = if is_decimal text then in_log (pos (digits_value 10 text)) else None
-
--- the number that was parsed, if it is in the log's range
-abbrev pub in_log_read : {E : Type 0} → Result ℕ E → Option ℤ
-in_log_read (Ok n) = in_log (pos n)
-in_log_read (Err e) = None
+abbrev pub short_decimal_of : List ℕ → Option ℤ
+short_decimal_of text = if nat_le (length text) 16 then decimal_of text >>= (λ number. in_log (pos number)) else None
 
 -- a time or an index of a bundle: an integer, or a string with its decimal digits
 abbrev pub whole_or_text_of : Data → Option ℤ
-whole_or_text_of (string text) = decimal_of text
+whole_or_text_of (string text) = short_decimal_of text
 whole_or_text_of d = whole_of d
 
 -- the log entry of a payload

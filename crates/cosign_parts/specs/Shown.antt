@@ -9,6 +9,7 @@ use Rattle.serde_json.specs.Data.{Data}
 use Rattle.cosign_parts.specs.Bundle.{statement_of, signature_at, certificate_at, entry_at, read_or_not, has_digest}
 use Rattle.cosign_parts.specs.LogEntry.{annotated_entry}
 use Rattle.cosign_parts.specs.Payload.{content_of}
+use Rattle.cosign_parts.specs.declared.bundle.BundleParts.{BundleParts}
 use Rattle.cosign_parts.specs.declared.layer.LayerKind.{LayerKind}
 use Rattle.cosign_parts.specs.declared.layer.LayerKind.TheVariants as kinds
 use Rattle.cosign_parts.specs.declared.layer.SimpleSigning.{SimpleSigning}
@@ -58,6 +59,16 @@ shown_by_bundle d = option_map (bundle_shown d) (statement_of d)
 -- the findings in bytes as a bundle
 abbrev pub shown_in_bundle : List ℕ → Option Shown
 shown_in_bundle content = plain_json_of content >>= shown_by_bundle
+
+-- for private clauses: the same from a bundle's parts
+abbrev pub shown_with : BundleParts → List Subject → Shown
+shown_with parts subjects = record {
+  signing = None;
+  subjects = subjects;
+  signature = parts.signature;
+  log_entry = parts.log_entry;
+  certificate = parts.certificate;
+}
 
 -- the findings in a layer, if its content has the form of its kind
 abbrev pub shown : LayerKind → List ℕ → Notes → Option Shown

@@ -13,10 +13,6 @@ is_of key signature row = bytes_eq row.key key && bytes_eq row.signature signatu
 abbrev pub is_valid_by : List ℕ → List ℕ → List ℕ → SignedRow → Bool
 is_valid_by key message signature row = is_of key signature row && names row.message message
 
--- the row has this key, this signature and this text
-abbrev pub has_text : List ℕ → List ℕ → List ℕ → SignedRow → Bool
-has_text key signature text row = is_of key signature row && bytes_eq row.message text
-
 -- some row makes the signature valid
 abbrev pub valid_in : TableVerifier → List ℕ → List ℕ → List ℕ → Bool
 valid_in table key message signature = list_any (is_valid_by key message signature) table.rows

@@ -2,11 +2,12 @@
 ghost use Rattle.std.specs.Prelude.{◌≡◌, Option, IfOk, option_map, is_some};
 ghost use Rattle.serde_json.specs.View.{view, items_view};
 ghost use Rattle.cosign_parts.specs.Bundle.{certificate_at, certificate_in, entry_at, entry_in, envelope_of};
-ghost use Rattle.cosign_parts.specs.Bundle.{first_item, material_of, object_only, one_object, only_object};
-ghost use Rattle.cosign_parts.specs.Bundle.{promised_entry, signature_at, signature_object, statement_of, subjects_of};
+ghost use Rattle.cosign_parts.specs.Bundle.{first_item, held_by, held_in, material_of, object_only, one_object};
+ghost use Rattle.cosign_parts.specs.Bundle.{only_object, promised_entry, signature_at, signature_object, subjects_of};
 
 use crate::log_entry::{LogEntryBundle, bundle_entry};
 use crate::shown::{Found, Subject};
+use crate::statement::plain_member;
 use json_tables::{
     Member, ReadError, Reads, decode_base64, present, read_or_none, read_plain_json, required,
     text_at,
@@ -58,31 +59,67 @@ pub(crate) fn read_envelope(alloc: Global, value: &Value) -> Result<Option<Envel
     }))
 }
 
-/// Returns the subjects of the statement in a bundle's envelope.
-pub(crate) fn read_statement(
-    alloc: Global,
-    value: &Value,
-) -> Result<Option<List<Subject>>, AllocError>
-    ensures { IfOk result (λ found. found ≡ statement_of (view value.now)) }
+/// What a bundle holds: the payload of its envelope, in which its statement is, and what is found beside it.
+#[derive(Drop)]
+pub(crate) struct BundleParts {
+    pub payload: Blob,
+    pub signature: Option<Text>,
+    pub log_entry: Found<LogEntryBundle>,
+    pub certificate: Found<Blob>,
+}
+
+/// Returns the parts of the bundle that the bytes encode.
+pub(crate) fn read_parts(alloc: Global, content: &[u8]) -> Result<Option<BundleParts>, AllocError>
+    ensures { IfOk result (λ found. found ≡ held_in content.now) }
+{
+    let Some(json) = read_plain_json(alloc, content)? else {
+        return Ok(None);
+    };
+    let parts = parts_of(alloc, json.value())?;
+    Ok(parts)
+}
+
+fn parts_of(alloc: Global, value: &Value) -> Result<Option<BundleParts>, AllocError>
+    ensures { IfOk result (λ found. found ≡ held_by (view value.now)) }
 {
     let Some(envelope) = read_envelope(alloc, value)? else {
         return Ok(None);
     };
-    let subjects = subjects(alloc, envelope.payload.as_slice())?;
-    Ok(subjects)
+    let Envelope {
+        payload_type: _,
+        payload,
+    } = envelope;
+    let log_entry = entry_at(alloc, value)?;
+    let certificate = certificate_at(alloc, value)?;
+    let signature = copied_text(alloc, signature_at(value))?;
+    Ok(Some(BundleParts {
+        payload,
+        signature,
+        log_entry,
+        certificate,
+    }))
 }
 
-// Parses the subjects of the statement from the bytes.
-fn subjects(alloc: Global, payload: &[u8]) -> Result<Option<List<Subject>>, AllocError>
+fn copied_text(alloc: Global, text: Option<&str>) -> Result<Option<Text>, AllocError>
+    ensures { IfOk result (λ found. found ≡ option_map (λ t. t.now) text.entry) }
+{
+    match text {
+        None => Ok(None),
+        Some(text) => Ok(Some(Text::new(alloc, text)?)),
+    }
+}
+
+/// Returns the subjects of the statement that the bytes encode.
+pub(crate) fn read_subjects(
+    alloc: Global,
+    payload: &[u8],
+) -> Result<Option<List<Subject>>, AllocError>
     ensures { IfOk result (λ found. found ≡ subjects_of payload.now) }
 {
-    let Some(json) = read_plain_json(alloc, payload)? else {
+    let Some(subjects) = plain_member(alloc, payload, "subject")? else {
         return Ok(None);
     };
-    let Some(subjects) = json.value().get("subject") else {
-        return Ok(None);
-    };
-    let subjects = read_or_none::<List<Subject>>(alloc, subjects)?;
+    let subjects = read_or_none::<List<Subject>>(alloc, subjects.value())?;
     Ok(subjects)
 }
 
@@ -147,15 +184,15 @@ fn material<'a>(value: &'a Value) -> Option<&'a Value>
     Some(material)
 }
 
-/// Returns the string of the one signature of a bundle.
-pub(crate) fn signature_at<'a>(value: &'a Value) -> Option<&'a str>
+// Returns the string of the one signature of a bundle.
+fn signature_at<'a>(value: &'a Value) -> Option<&'a str>
     ensures { option_map (λ text. text.now) result ≡ signature_at (view value.now) }
 {
     signature_object(value)?.get("sig")?.as_str()
 }
 
-/// Returns the bytes of the certificate of a bundle.
-pub(crate) fn certificate_at(alloc: Global, value: &Value) -> Result<Found<Blob>, AllocError>
+// Returns the bytes of the certificate of a bundle.
+fn certificate_at(alloc: Global, value: &Value) -> Result<Found<Blob>, AllocError>
     ensures { IfOk result (λ found. found ≡ certificate_at (view value.now)) }
 {
     let Some(material) = value.get("verificationMaterial") else {
@@ -183,8 +220,8 @@ fn certificate_in(alloc: Global, value: &Value) -> Result<Found<Blob>, AllocErro
     }
 }
 
-/// Returns the first log entry of a bundle, if it has a promise of the log.
-pub(crate) fn entry_at(alloc: Global, value: &Value) -> Result<Found<LogEntryBundle>, AllocError>
+// Returns the first log entry of a bundle, if it has a promise of the log.
+fn entry_at(alloc: Global, value: &Value) -> Result<Found<LogEntryBundle>, AllocError>
     ensures { IfOk result (λ found. found ≡ entry_at (view value.now)) }
 {
     let Some(entry) = promised_entry(value) else {

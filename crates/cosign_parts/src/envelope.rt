@@ -32,7 +32,7 @@ pub fn enveloped_text(alloc: Global, content: &[u8]) -> Result<Blob, AllocError>
     Ok(text)
 }
 
-fn envelope_in(alloc: Global, content: &[u8]) -> Result<Option<Envelope>, AllocError>
+pub(crate) fn envelope_in(alloc: Global, content: &[u8]) -> Result<Option<Envelope>, AllocError>
     ensures { IfOk result (λ found. found ≡ envelope_in content.now) }
 {
     let Some(json) = read_plain_json(alloc, content)? else {

@@ -11,6 +11,7 @@ mod log_entry;
 mod log_keys;
 mod payload;
 mod shown;
+mod statement;
 mod trust;
 mod verifier;
 
@@ -22,6 +23,8 @@ pub use laws::log_texts_are_canonical;
 pub use layer::{LayerKind, SignatureLayer, SimpleSigning};
 pub use log_entry::{LogEntryBundle, log_text, logs};
 pub use log_keys::LogKeys;
+pub use payload::SIMPLE_SIGNING_TYPE;
 pub use shown::{Found, Shown, is_about, show};
+pub use statement::predicate_type;
 pub use trust::Trusted;
 pub use verifier::{SignatureVerifier, SignedRow, TableVerifier};

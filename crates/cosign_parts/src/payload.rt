@@ -9,6 +9,9 @@ use json_values::Text;
 use serde_json::Value;
 use std::alloc::{AllocError, Global};
 
+/// The media type of a simple signing payload.
+pub const SIMPLE_SIGNING_TYPE: &'static str = "application/vnd.dev.cosign.simplesigning.v1+json";
+
 const PAYLOAD_TYPE: &str = "cosign container image signature";
 
 /// Parses a payload.

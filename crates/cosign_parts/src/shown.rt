@@ -1,21 +1,18 @@
 //! Finds the parts of a layer in its content and annotations, before any signature is verified.
-ghost use Rattle.std.specs.Prelude.{◌≡◌, IfOk, codes, option_map};
+ghost use Rattle.std.specs.Prelude.{◌≡◌, IfOk, codes};
 ghost use Rattle.std.specs.FinMap.{get};
 ghost use Rattle.std.specs.List.{list_any};
-ghost use Rattle.serde_json.specs.View.{view};
 ghost use Rattle.cosign_parts.specs.Bundle.{has_digest, read_or_not};
 ghost use Rattle.cosign_parts.specs.LogEntry.{annotated_entry};
 ghost use Rattle.cosign_parts.specs.Shown.{is_about, noted_certificate, noted_entry, payload_shown, shown};
-ghost use Rattle.cosign_parts.specs.Shown.{shown_by_bundle, shown_in_bundle};
+ghost use Rattle.cosign_parts.specs.Shown.{shown_in_bundle, shown_with};
 
-use crate::bundle::{certificate_at, entry_at, read_statement, signature_at};
+use crate::bundle::{BundleParts, read_parts, read_subjects};
 use crate::layer::{LayerKind, SimpleSigning};
 use crate::log_entry::{LogEntryBundle, annotated_entry};
 use crate::payload::read_payload;
-use json_tables::read_plain_json;
 use json_values::{Annotations, Blob, Copied, List, Text};
 use oci_digests::Digest;
-use serde_json::Value;
 use std::alloc::{AllocError, Global};
 
 /// What is found of a part that may be absent.
@@ -147,41 +144,36 @@ fn noted_certificate(alloc: Global, annotations: &Annotations) -> Result<Found<B
     }
 }
 
-fn copied_text(alloc: Global, text: Option<&str>) -> Result<Option<Text>, AllocError>
-    ensures { IfOk result (λ found. found ≡ option_map (λ t. t.now) text.entry) }
-{
-    match text {
-        None => Ok(None),
-        Some(text) => Ok(Some(Text::new(alloc, text)?)),
-    }
-}
-
+// The bundle's document is let go before its statement is parsed.
+#[tactic(auto, using(crate::proofs::Shows::bundle, crate::proofs::Shows::no_bundle, crate::proofs::Shows::no_subject))]
 fn show_bundle(alloc: Global, content: &[u8]) -> Result<Option<Shown>, AllocError>
     ensures { IfOk result (λ found. found ≡ shown_in_bundle content.now) }
 {
-    let Some(json) = read_plain_json(alloc, content)? else {
+    let Some(parts) = read_parts(alloc, content)? else {
         return Ok(None);
     };
-    let shown = shown_by_bundle(alloc, json.value())?;
-    Ok(shown)
+    let Some(subjects) = read_subjects(alloc, parts.payload.as_slice())? else {
+        return Ok(None);
+    };
+    Ok(Some(shown_with(parts, subjects)))
 }
 
-fn shown_by_bundle(alloc: Global, value: &Value) -> Result<Option<Shown>, AllocError>
-    ensures { IfOk result (λ found. found ≡ shown_by_bundle (view value.now)) }
+fn shown_with(parts: BundleParts, subjects: List<Subject>) -> Shown
+    ensures { result ≡ shown_with parts subjects }
 {
-    let Some(subjects) = read_statement(alloc, value)? else {
-        return Ok(None);
-    };
-    let log_entry = entry_at(alloc, value)?;
-    let certificate = certificate_at(alloc, value)?;
-    let signature = copied_text(alloc, signature_at(value))?;
-    Ok(Some(Shown {
+    let BundleParts {
+        payload: _,
+        signature,
+        log_entry,
+        certificate,
+    } = parts;
+    Shown {
         signing: None,
         subjects,
         signature,
         log_entry,
         certificate,
-    }))
+    }
 }
 
 /// Returns whether the layer with these findings is about the image of this digest.

@@ -3,7 +3,8 @@ ghost use Rattle.std.specs.Prelude.{◌≡◌, IfOk};
 ghost use Rattle.cosign_layers.specs.Checks.{input, layer_read};
 ghost use Rattle.cosign_parts.specs.Trust.{trust_of};
 ghost use Rattle.cosign_parts.specs.declared.layer.LayerKind.TheVariants as kinds;
-ghost use Rattle.cosign_layers.specs.Rejection.{Matches as MatchesLayer};
+ghost use Rattle.json_values.specs.Refusals.{Matches};
+ghost use Rattle.cosign_layers.specs.Rejection.{is_memory};
 ghost use Rattle.cosign_rows.specs.Part.{appended, bundle_part, bundles_part, read_bundle};
 
 use cosign_layers::{LayerRejection, read_bundle_layer};
@@ -22,7 +23,7 @@ fn read_annotated<V: SignatureVerifier, O: Offline>(
     layer: &ImageLayer,
     annotations: &Annotations,
 ) -> Result<SignatureLayer, LayerRejection>
-    ensures { MatchesLayer result (layer_read (trust_of V.valid O.vouched trusted.now) digest.now
+    ensures { Matches is_memory result (layer_read (trust_of V.valid O.vouched trusted.now) digest.now
         (input kinds.Bundle layer.now.content text.now annotations.now)) }
 {
     read_bundle_layer(
@@ -45,7 +46,8 @@ fn read_bundle<V: SignatureVerifier, O: Offline>(
     text: &str,
     layer: &ImageLayer,
 ) -> Result<SignatureLayer, LayerRejection>
-    ensures { MatchesLayer result (read_bundle (trust_of V.valid O.vouched trusted.now) digest.now text.now layer.now) }
+    ensures { Matches is_memory result
+        (read_bundle (trust_of V.valid O.vouched trusted.now) digest.now text.now layer.now) }
 {
     match &layer.annotations {
         Some(annotations) => read_annotated(alloc, trusted, digest, text, layer, annotations),

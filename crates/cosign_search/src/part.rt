@@ -1,15 +1,15 @@
 //! The result of a source of signatures.
 ghost use Rattle.std.specs.Prelude.{◌≡◌, true, false, All, IfOk, IsTrue, map, option_copied};
 ghost use Rattle.std.specs.List.{position};
-ghost use Rattle.oci_digests.specs.Names.{Names, digest_text, name_of};
+ghost use Rattle.oci_digests.specs.Names.{Names, digest_text, prefix_of};
 ghost use Rattle.registry_calls.specs.Named.{names_each};
 ghost use Rattle.cosign_layers.specs.Checks.{input, layer_read};
 ghost use Rattle.cosign_parts.specs.Trust.{trust_of};
 ghost use Rattle.cosign_parts.specs.declared.layer.LayerKind.TheVariants as kinds;
-ghost use Rattle.cosign_layers.specs.Rejection.{Matches as MatchesLayer};
+ghost use Rattle.json_values.specs.Refusals.{Matches};
+ghost use Rattle.cosign_layers.specs.Rejection.{is_memory};
 ghost use Rattle.cosign_rows.specs.Part.{appended, descriptors_part, layer_part, named_layer, read_layer, skipping};
-ghost use Rattle.cosign_search.specs.Part.{is_among, is_text, layer_digests, text_by};
-ghost use Rattle.cosign_search.specs.Part.{Begins, BeginsOtherwise, Serves, Tell};
+ghost use Rattle.cosign_search.specs.Part.{Begins, BeginsOtherwise, Serves, ServesAll, Tell, is_among, layer_digests};
 ghost use Rattle.cosign_rows.specs.declared.found.SourceKind.TheVariants.{Tag};
 
 use cosign_layers::{LayerRejection, read_payload_layer};
@@ -17,26 +17,9 @@ use cosign_parts::{Offline, SignatureLayer, SignatureVerifier, Trusted};
 use cosign_rows::{Part, Skipped, SourceKind};
 use json_values::{Annotations, Copied, List, Text};
 use oci_descriptors::OciDescriptor;
-use oci_digests::{Algorithm, digest_text};
+use oci_digests::{Algorithm, digest_text, digits_after};
 use oci_manifests::ImageLayer;
 use std::alloc::{AllocError, Global};
-
-/// Which algorithms the digests of descriptors begin with.
-#[derive(Clone, Copy)]
-pub(crate) struct Used {
-    pub sha256: bool,
-    pub sha384: bool,
-    pub sha512: bool,
-}
-
-/// The digest texts of a pulled layer by each algorithm that is used. It is not hashed by the algorithm of its own
-/// digest, and once by any other, however many descriptors there are.
-#[derive(Drop)]
-pub(crate) struct LayerDigests {
-    pub sha256: Option<Text>,
-    pub sha384: Option<Text>,
-    pub sha512: Option<Text>,
-}
 
 /// Returns a part that is one cause.
 pub(crate) fn skipping(alloc: Global, cause: Skipped) -> Result<Part, AllocError>
@@ -77,62 +60,86 @@ pub(crate) fn descriptors_part<V: SignatureVerifier, O: Offline>(
     Ok(part)
 }
 
-// Digest texts of each layer, which determine for each descriptor which layer it names.
-#[tactic(auto, using(crate::proofs::LayerTexts::all_tell))]
+// The digest texts of each layer by each algorithm that is used, which determine for each descriptor which layer it
+// names. A layer is not hashed by the algorithm of its own digest, and once by any other, however many descriptors
+// there are.
 fn all_digests(
     alloc: Global,
     own: &[OciDescriptor],
     layers: &[ImageLayer],
     descriptors: &[OciDescriptor],
-) -> Result<List<LayerDigests>, AllocError>
+) -> Result<List<List<Text>>, AllocError>
     requires { IsTrue (names_each own.now layers.now) }
     ensures { IfOk result (λ all. All (λ x. Tell all layers.now x.digest) descriptors.now) }
 {
-    let used = used_algorithms(descriptors);
-    let all = used_digests(alloc, used, own, layers)?;
+    let used = used_algorithms(alloc, descriptors)?;
+    let all = used_digests(alloc, used.as_slice(), own, layers)?;
     Ok(all)
 }
 
-#[tactic(auto, using(crate::proofs::LayerTexts::all_served))]
-fn used_algorithms(descriptors: &[OciDescriptor]) -> Used
-    ensures { All (λ x. Serves result x.digest) descriptors.now }
+// The algorithms with which the digests of descriptors begin.
+fn used_algorithms(
+    alloc: Global,
+    descriptors: &[OciDescriptor],
+) -> Result<List<Algorithm>, AllocError>
+    ensures { IfOk result (λ used. All (λ x. Serves used x.digest) descriptors.now) }
 {
-    Used {
-        sha256: is_used("sha256:", descriptors),
-        sha384: is_used("sha384:", descriptors),
-        sha512: is_used("sha512:", descriptors),
+    let mut used = List::new(alloc);
+    for algorithm in Algorithm::ALL.iter() {
+        used = with_used(used, *algorithm, descriptors)?;
     }
+    Ok(used)
 }
 
-// Whether the digest of a descriptor begins with this name.
+// Adds the algorithm, if the digest of a descriptor begins with it.
+#[tactic(auto, using(crate::proofs::LayerTexts::used_rules))]
+fn with_used(
+    mut used: List<Algorithm>,
+    algorithm: Algorithm,
+    descriptors: &[OciDescriptor],
+) -> Result<List<Algorithm>, AllocError>
+    ensures one { IfOk result (λ more. ServesAll more algorithm descriptors.now) }
+    ensures others { IfOk result (λ more. (a : _) → ServesAll used a descriptors.now
+        → ServesAll more a descriptors.now) }
+{
+    if is_used(algorithm, descriptors) {
+        used.push(algorithm)?;
+    }
+    Ok(used)
+}
+
+// Whether the digest of a descriptor begins with this algorithm.
 #[tactic(auto, using(crate::proofs::LayerTexts::none_begins))]
-fn is_used(name: &str, descriptors: &[OciDescriptor]) -> bool
-    ensures { result ≡ false → All (λ x. BeginsOtherwise name.now x.digest) descriptors.now }
+fn is_used(algorithm: Algorithm, descriptors: &[OciDescriptor]) -> bool
+    ensures { result ≡ false → All (λ x. BeginsOtherwise (prefix_of algorithm) x.digest) descriptors.now }
 {
     for descriptor in descriptors {
-        if begins(name, descriptor.digest.as_str()) {
+        if begins(algorithm, descriptor.digest.as_str()) {
             return true;
         }
     }
     false
 }
 
-fn begins(name: &str, digest: &str) -> bool
-    ensures if_true { result ≡ true → Begins name.now digest.now }
-    ensures if_false { result ≡ false → BeginsOtherwise name.now digest.now }
+fn begins(algorithm: Algorithm, digest: &str) -> bool
+    ensures if_true { result ≡ true → Begins (prefix_of algorithm) digest.now }
+    ensures if_false { result ≡ false → BeginsOtherwise (prefix_of algorithm) digest.now }
 {
-    digest.starts_with(name)
+    match digits_after(algorithm, digest) {
+        Some(_) => true,
+        None => false,
+    }
 }
 
 #[tactic(auto, using(crate::proofs::LayerTexts::digests_next, crate::proofs::LayerTexts::digests_end))]
 fn used_digests(
     alloc: Global,
-    used: Used,
+    used: &[Algorithm],
     own: &[OciDescriptor],
     layers: &[ImageLayer],
-) -> Result<List<LayerDigests>, AllocError>
+) -> Result<List<List<Text>>, AllocError>
     requires { IsTrue (names_each own.now layers.now) }
-    ensures { IfOk result (λ all. all ≡ map (layer_digests used) layers.now) }
+    ensures { IfOk result (λ all. all ≡ map (layer_digests used.now) layers.now) }
 {
     let mut all = List::new(alloc);
     for (place, layer) in layers.iter().enumerate() {
@@ -143,44 +150,25 @@ fn used_digests(
 }
 
 // The digest texts of the layer that this digest names.
+#[tactic(auto, using(crate::proofs::LayerTexts::digests_next, crate::proofs::LayerTexts::digests_end))]
 fn layer_digests(
     alloc: Global,
-    used: Used,
+    used: &[Algorithm],
     digest: &str,
     layer: &ImageLayer,
-) -> Result<LayerDigests, AllocError>
+) -> Result<List<Text>, AllocError>
     requires { Names digest.now layer.now.content }
-    ensures { IfOk result (λ own. own ≡ layer_digests used layer.now) }
+    ensures { IfOk result (λ own. own ≡ layer_digests used.now layer.now) }
 {
-    let sha256 = text_by(alloc, Algorithm::Sha256, used.sha256, digest, layer)?;
-    let sha384 = text_by(alloc, Algorithm::Sha384, used.sha384, digest, layer)?;
-    let sha512 = text_by(alloc, Algorithm::Sha512, used.sha512, digest, layer)?;
-    Ok(LayerDigests {
-        sha256,
-        sha384,
-        sha512,
-    })
-}
-
-fn text_by(
-    alloc: Global,
-    algorithm: Algorithm,
-    is_used: bool,
-    digest: &str,
-    layer: &ImageLayer,
-) -> Result<Option<Text>, AllocError>
-    requires { Names digest.now layer.now.content }
-    ensures { IfOk result (λ text. text ≡ text_by algorithm is_used layer.now) }
-{
-    if !is_used {
-        return Ok(None);
+    let mut own = List::new(alloc);
+    for algorithm in used {
+        own.push(layer_text(alloc, *algorithm, digest, layer)?)?;
     }
-    let text = layer_text(alloc, algorithm, digest, layer)?;
-    Ok(Some(text))
+    Ok(own)
 }
 
 // The digest itself, if it is by this algorithm.
-#[tactic(auto, using(crate::proofs::LayerTexts::own_text))]
+#[tactic(auto, using(oci_digests::proofs::SameBytes::own_text))]
 fn layer_text(
     alloc: Global,
     algorithm: Algorithm,
@@ -190,27 +178,17 @@ fn layer_text(
     requires { Names digest.now layer.now.content }
     ensures { IfOk result (λ text. text ≡ digest_text algorithm layer.now.content) }
 {
-    if begins(name_of(algorithm), digest) {
+    if begins(algorithm, digest) {
         return Text::new(alloc, digest);
     }
     digest_text(alloc, algorithm, layer.content.as_slice())
-}
-
-fn name_of(algorithm: Algorithm) -> &'static str
-    ensures { result.now ≡ name_of algorithm }
-{
-    match algorithm {
-        Algorithm::Sha256 => "sha256:",
-        Algorithm::Sha384 => "sha384:",
-        Algorithm::Sha512 => "sha512:",
-    }
 }
 
 // The first layer that the digest names, by the layers' digest texts.
 #[tactic(auto, using(crate::proofs::LayerTexts::named_nowhere))]
 fn named_layer<'a>(
     digest: &str,
-    digests: &[LayerDigests],
+    digests: &[List<Text>],
     layers: &'a [ImageLayer],
 ) -> Option<&'a ImageLayer>
     requires { Tell digests.now layers.now digest.now }
@@ -227,30 +205,21 @@ fn named_layer<'a>(
 
 // The index of the first layer whose texts have the digest.
 #[tactic(auto, using(cosign_rows::proofs::First::first_place, cosign_rows::proofs::First::no_place))]
-fn place_among(digest: &str, digests: &[LayerDigests]) -> Option<usize>
+fn place_among(digest: &str, digests: &[List<Text>]) -> Option<usize>
     ensures { result ≡ position (is_among digest.now) digests.now }
 {
     for (place, own) in digests.iter().enumerate() {
-        if is_among(own, digest) {
+        if is_among(own.as_slice(), digest) {
             return Some(place);
         }
     }
     None
 }
 
-fn is_among(own: &LayerDigests, digest: &str) -> bool
+fn is_among(own: &[Text], digest: &str) -> bool
     ensures { result ≡ is_among digest.now own.now }
 {
-    is_text(&own.sha256, digest) || is_text(&own.sha384, digest) || is_text(&own.sha512, digest)
-}
-
-fn is_text(own: &Option<Text>, digest: &str) -> bool
-    ensures { result ≡ is_text digest.now own.now }
-{
-    match own {
-        Some(own) => digest == own.as_str(),
-        None => false,
-    }
+    own.iter().any(|text| digest == text.as_str())
 }
 
 // Appends a descriptor's layer, or why there is none.
@@ -291,7 +260,7 @@ fn read_layer<V: SignatureVerifier, O: Offline>(
     descriptor: &OciDescriptor,
     named: Option<&ImageLayer>,
 ) -> Result<SignatureLayer, LayerRejection>
-    ensures { MatchesLayer result (read_layer (trust_of V.valid O.vouched trusted.now) digest.now
+    ensures { Matches is_memory result (read_layer (trust_of V.valid O.vouched trusted.now) digest.now
         descriptor.now (option_copied named.entry)) }
 {
     let Some(layer) = named else {
@@ -314,7 +283,7 @@ fn read_pulled<V: SignatureVerifier, O: Offline>(
     layer: &ImageLayer,
     annotations: &Annotations,
 ) -> Result<SignatureLayer, LayerRejection>
-    ensures { MatchesLayer result (layer_read (trust_of V.valid O.vouched trusted.now) digest.now
+    ensures { Matches is_memory result (layer_read (trust_of V.valid O.vouched trusted.now) digest.now
         (input kinds.Payload layer.now.content descriptor.now.digest annotations.now)) }
 {
     read_payload_layer(

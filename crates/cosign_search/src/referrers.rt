@@ -6,10 +6,12 @@ ghost use Rattle.engine_terms.specs.declared.settings.Settings.{Settings};
 ghost use Rattle.cosign_parts.specs.Trust.{trust_of};
 ghost use Rattle.registry_calls.specs.Calls.{image_call};
 ghost use Rattle.registry_calls.specs.Clients.{ClientMeets};
-ghost use Rattle.registry_calls.specs.Error.{is_memory, Matches};
+ghost use Rattle.json_values.specs.Refusals.{Matches};
+ghost use Rattle.registry_calls.specs.Error.{is_memory};
 ghost use Rattle.cosign_rows.specs.Part.{appended, bundles_part, skipping};
 ghost use Rattle.cosign_rows.specs.Search.{bundle_type, or_skipped, referrer_part, referrer_by, referrer_row};
 ghost use Rattle.cosign_rows.specs.Search.{referrers_row, referrers_source};
+ghost use Rattle.cosign_rows.specs.declared.found.SkipCause.TheVariants.{Refused};
 ghost use Rattle.cosign_rows.specs.declared.found.Skipped.TheVariants.{Source, Referrer};
 ghost use Rattle.cosign_rows.specs.declared.found.SourceKind.TheVariants.{Referrers};
 ghost use Rattle.cosign_search.specs.Gathered.{gathered, put_behind};
@@ -76,21 +78,32 @@ fn add_pulled<V: SignatureVerifier, O: Offline>(
     add_bundles(alloc, trusted, source, layers, part)
 }
 
-// Records a referrer that was not pulled as skipped.
+// Appends that a referrer was not pulled, and why.
+fn add_refused(
+    alloc: Global,
+    digest: &str,
+    error: SigstoreError,
+    part: Part,
+) -> Result<Part, AllocError>
+    ensures { IfOk result (λ more. more ≡ appended part (skipping (Referrer digest.now (Refused error)))) }
+{
+    let digest = Text::new(alloc, digest)?;
+    add_skipped(part, Skipped::Referrer(digest, SkipCause::Refused(error)))
+}
+
+// Records a referrer that was not pulled as skipped, unless memory ran out.
 fn skip_referrer(
     alloc: Global,
     digest: &str,
     error: SigstoreError,
     part: Part,
 ) -> Result<Part, SigstoreError>
-    ensures { Matches result (put_behind part (or_skipped (Referrer digest.now) (Err error))) }
+    ensures { Matches is_memory result (put_behind part (or_skipped (Referrer digest.now) (Err error))) }
 {
     if error.is_memory() {
         return Err(error);
     }
-    let digest = Text::new(alloc, digest)?;
-    let cause = Skipped::Referrer(digest, SkipCause::Refused(error));
-    let part = add_skipped(part, cause)?;
+    let part = add_refused(alloc, digest, error, part)?;
     Ok(part)
 }
 
@@ -103,7 +116,7 @@ fn add_referrer<V: SignatureVerifier, O: Offline>(
     image: Result<ImageData, SigstoreError>,
     part: Part,
 ) -> Result<Part, SigstoreError>
-    ensures { Matches result (put_behind part (or_skipped (Referrer digest.now)
+    ensures { Matches is_memory result (put_behind part (or_skipped (Referrer digest.now)
         (referrer_part (trust_of V.valid O.vouched trusted.now) source.now image))) }
 {
     match image {
@@ -202,7 +215,7 @@ fn each_referrer<C: ClientCapabilities, T: Transport, V: SignatureVerifier, O: O
 
 // Records a refused listing as skipped.
 fn skip_listing(part: Part, refused: SigstoreError) -> Result<Part, SigstoreError>
-    ensures { Matches result (put_behind part (or_skipped (Source Referrers) (Err refused))) }
+    ensures { Matches is_memory result (put_behind part (or_skipped (Source Referrers) (Err refused))) }
 {
     if refused.is_memory() {
         return Err(refused);

@@ -4,7 +4,8 @@ ghost use Rattle.oci_names.specs.Reference.{reads_back};
 ghost use Rattle.engine_terms.specs.Contexts.{within};
 ghost use Rattle.engine_terms.specs.declared.settings.Settings.{Settings};
 ghost use Rattle.cosign_parts.specs.Trust.{trust_of};
-ghost use Rattle.registry_calls.specs.Error.{is_memory, Matches};
+ghost use Rattle.json_values.specs.Refusals.{Matches};
+ghost use Rattle.registry_calls.specs.Error.{is_memory};
 ghost use Rattle.registry_calls.specs.Clients.{ClientMeets};
 ghost use Rattle.registry_calls.specs.Named.{is_named, names_each};
 ghost use Rattle.cosign_rows.specs.Search.{document_part, pulled_part, payload_type, or_skipped};
@@ -77,7 +78,8 @@ fn pulled_part<V: SignatureVerifier, O: Offline>(
     image: Result<ImageData, SigstoreError>,
 ) -> Result<Part, SigstoreError>
     requires { IfOk image (λ image. IsTrue (is_named image)) }
-    ensures { Matches result (pulled_part (trust_of V.valid O.vouched trusted.now) digest.now document.now image) }
+    ensures { Matches is_memory result
+        (pulled_part (trust_of V.valid O.vouched trusted.now) digest.now document.now image) }
 {
     let image = image?;
     let part = document_part(alloc, trusted, digest, document, &image)?;
@@ -125,7 +127,7 @@ fn or_skipped(
     kind: SourceKind,
     part: Result<Part, SigstoreError>,
 ) -> Result<Part, SigstoreError>
-    ensures { Matches result (or_skipped (Source kind) part) }
+    ensures { Matches is_memory result (or_skipped (Source kind) part) }
 {
     match part {
         Ok(part) => Ok(part),

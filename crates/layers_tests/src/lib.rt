@@ -6,6 +6,8 @@ mod causes;
 #[cfg(test)]
 mod layers;
 #[cfg(test)]
+mod statements;
+#[cfg(test)]
 mod trusted;
 #[cfg(test)]
 mod written;

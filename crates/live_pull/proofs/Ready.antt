@@ -15,7 +15,7 @@ use Rattle.recorded_case.specs.Members.{unless_absent, number_of}
 use Rattle.recorded_case.specs.Platform.{platform_of}
 use Rattle.recorded_case.proofs.CaseParts.{reads_as_reference, through}
 use Rattle.live_host.specs.Names.{frame_named}
-use Rattle.live_pull.specs.Settings.{IsReady, keys_of, log_keys_of, members, settings_of}
+use Rattle.live_pull.specs.Settings.{IsReady, keys_of, log_keys_of, members, settings_of, statements_of}
 use Rattle.live_pull.specs.declared.settings.LiveSettings.{LiveSettings}
 
 abbrev HasRead : Data → LiveSettings → Type 0
@@ -36,8 +36,9 @@ reference_is d =
     through (HasRead d) (required keys_of (codes "keys") d) _ (λ keys _.
     through (HasRead d) (required (list_of constraint_of) (codes "constraints") d) _ (λ constraints _.
     through (HasRead d) (at_name (unless_absent empty log_keys_of) (codes "log_keys") d) _ (λ log_keys _.
+    through (HasRead d) (at_name (unless_absent None statements_of) (codes "statements") d) _ (λ statements _.
     through (HasRead d) (required bool_of (codes "blobs") d) _ (λ blobs _.
-    is_reference)))))))))))))
+    is_reference))))))))))))))
 
 ready_by : (d : Data) (o : Option LiveSettings) (settings : LiveSettings) → o ≡ Some settings → IfSome o (HasRead d) → IsReady settings
 ready_by d None settings is h = cc is

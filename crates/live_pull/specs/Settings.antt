@@ -1,5 +1,5 @@
 -- The settings of a live pull.
-use Rattle.std.specs.Prelude.{ℕ, List, [], ◌∷◌, Option, Some, None, IsOk, codes}
+use Rattle.std.specs.Prelude.{ℕ, List, [], ◌∷◌, ◌++◌, Option, Some, None, option_map, IsOk, codes}
 use Rattle.std.specs.FinMap.{FinMap, empty}
 use Rattle.serde_json.specs.Data.{Data}
 use Rattle.json_values.specs.Places.{by_bytes}
@@ -15,6 +15,8 @@ use Rattle.recorded_case.specs.Case.{reference_text_of, protocol_of}
 use Rattle.recorded_case.specs.Constraint.{constraint_of}
 use Rattle.recorded_case.specs.Members.{unless_absent, number_of}
 use Rattle.recorded_case.specs.Platform.{platform_of}
+use Rattle.recorded_case.specs.declared.constraint.WrittenConstraint.{WrittenConstraint}
+use Rattle.recorded_case.specs.declared.constraint.WrittenConstraint.TheVariants.{Statements}
 use Rattle.live_host.specs.Names.{frame_named}
 use Rattle.live_pull.specs.declared.settings.LiveSettings.{LiveSettings}
 
@@ -31,6 +33,7 @@ members =
     ∷ codes "keys"
     ∷ codes "constraints"
     ∷ codes "log_keys"
+    ∷ codes "statements"
     ∷ codes "blobs"
     ∷ codes "frame"
     ∷ []
@@ -45,8 +48,18 @@ keys_of = list_of key_of
 abbrev pub log_keys_of : Data → Option (FinMap by_bytes (List ℕ))
 log_keys_of = map_of key_of
 
+-- which statements bundles may sign, for a member that may be absent
+abbrev pub statements_of : Data → Option (Option (List (List ℕ)))
+statements_of d = option_map Some (list_of text_of d)
+
+-- the constraints, and the one on statements if there is one
+abbrev pub with_statements : List WrittenConstraint → Option (List (List ℕ)) → List WrittenConstraint
+with_statements constraints None = constraints
+with_statements constraints (Some types) = constraints ++ Statements types ∷ []
+
 -- The frame `settings`, with no other members. They mean the same as those of a recorded case, but keys are base64
--- strings. `blobs` is whether the blobs of layers are sent.
+-- strings. `statements` are the types of predicates of which a bundle's statement must have one, and `blobs` is whether
+-- the blobs of layers are sent.
 unfoldable pub settings_of : Data → Option LiveSettings
 settings_of d = do
   known ← only members d
@@ -61,6 +74,7 @@ settings_of d = do
   keys ← required keys_of (codes "keys") d
   constraints ← required (list_of constraint_of) (codes "constraints") d
   log_keys ← at_name (unless_absent empty log_keys_of) (codes "log_keys") d
+  statements ← at_name (unless_absent None statements_of) (codes "statements") d
   blobs ← required bool_of (codes "blobs") d
   Some (record {
     reference = reference;
@@ -71,7 +85,7 @@ settings_of d = do
     moment = moment;
     limit = limit;
     keys = keys;
-    constraints = constraints;
+    constraints = with_statements constraints statements;
     log_keys = log_keys;
     blobs = blobs;
   })

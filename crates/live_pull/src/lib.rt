@@ -7,6 +7,7 @@ mod opening;
 mod pulls;
 mod refusal;
 mod settings;
+mod statements;
 mod status;
 
 pub use live::{Ended, run};

@@ -46,6 +46,9 @@ fn collected(
     }
 }
 
+// In a function of its own, so that no other one has to prove the drop.
+fn drop_answer(_answer: Result<TrustedLayers, SigstoreError>) {}
+
 /// Searches the layers that may satisfy the policy, whatever the signatures. The host is not asked yet.
 pub(crate) fn search<S: Source, K: Sink>(
     alloc: Global,
@@ -76,8 +79,10 @@ pub(crate) fn search<S: Source, K: Sink>(
         &Everyone,
         &Everyone,
     );
+    let layers = collected(alloc, &answer);
+    drop_answer(answer);
     let (source, sink) = transport.finish();
-    (Streams { source, sink }, collected(alloc, &answer))
+    (Streams { source, sink }, layers)
 }
 
 /// Pulls under the host's answers.

@@ -5,6 +5,7 @@ ghost use Rattle.json_tables.specs.Outcomes.{ReadsTo};
 ghost use Rattle.live_pull.specs.Settings.{settings_of, IsReady};
 
 use crate::keys::{KeyList, KeyMap};
+use crate::statements::{StatementTypes, with_statements};
 use cosign_parts::LogKeys;
 use engine_terms::ClientProtocol;
 use json_tables::{ReadError, Reads, only, read_row};
@@ -16,7 +17,8 @@ use recorded_case::{Entries, OrUsual, Platform, ReferenceText, WrittenConstraint
 use serde_json::Value;
 use std::alloc::Global;
 
-/// What to pull, under which policy: the frame `settings`, with exactly one member for each field, of the field's name.
+/// What to pull, under which policy: the frame `settings`, with one member for each field, of the field's name, and
+/// `statements`.
 #[derive(Drop)]
 pub struct LiveSettings {
     /// A string that parses as a reference.
@@ -35,7 +37,8 @@ pub struct LiveSettings {
     pub limit: Option<u64>,
     /// A list of base64 strings, the keys of the policy.
     pub keys: List<Blob>,
-    /// The constraints of the policy, written as in a recorded case.
+    /// The constraints of the policy, written as in a recorded case, and the one that the member `statements`, a list
+    /// of strings, states, if it is present: which types the predicate of a bundle's statement may have.
     pub constraints: List<WrittenConstraint>,
     /// An object from the ids of transparency logs to base64 strings, their keys; none if the member is absent.
     pub log_keys: LogKeys,
@@ -54,6 +57,7 @@ const NAMES: &[&str] = &[
     "keys",
     "constraints",
     "log_keys",
+    "statements",
     "blobs",
     "frame",
 ];
@@ -61,7 +65,9 @@ const NAMES: &[&str] = &[
 // The members from each one on, in the order of `NAMES`; the frame's name is read by itself.
 type Blobs = (bool, ());
 
-type Logs = (KeyMap, Blobs);
+type Statements = (StatementTypes, Blobs);
+
+type Logs = (KeyMap, Statements);
 
 type Constraints = (Entries<WrittenConstraint>, Logs);
 
@@ -103,8 +109,10 @@ impl Reads for LiveSettings {
             keys,
             constraints,
             log_keys,
+            statements,
             blobs
         ]: Members = read_row::<LiveSettings, _>(alloc, value, NAMES)?;
+        let constraints = with_statements(alloc, constraints.list, statements.types)?;
         Ok(LiveSettings {
             reference: reference.text,
             protocol: protocol.value,
@@ -114,7 +122,7 @@ impl Reads for LiveSettings {
             moment,
             limit: limit.value,
             keys: keys.list,
-            constraints: constraints.list,
+            constraints,
             log_keys: log_keys.map,
             blobs,
         })

@@ -1,7 +1,7 @@
 -- The unique image that can be built from a written chain.
 use Rattle.std.proofs.Common.{◌≡◌, ℕ, false, List, Option, Some, None, sym, ap, subst, ◌∙◌}
 use Rattle.oci_digests.specs.Names.{digest_text}
-use Rattle.oci_digests.specs.declared.digester.Algorithm.TheVariants.{Sha256}
+use Rattle.oci_names.specs.declared.algorithm.Algorithm.TheVariants.{Sha256}
 use Rattle.oci_manifests.specs.declared.manifest.OciImageManifest.{OciImageManifest}
 use Rattle.cosign_layers.specs.Read.{Gives, HasOneOutcome, RejectedUnlessMemory}
 use Rattle.cosign_layers.specs.Rejection.{is_memory}

@@ -17,7 +17,7 @@ use Rattle.cosign_chain.specs.declared.image.VerifiedImage.{VerifiedImage}
 use Rattle.recorded_case.specs.Policy.{constraint_by, constraints_by, trust_of, meaning_of}
 use Rattle.recorded_case.specs.declared.case.Case.{Case}
 use Rattle.recorded_case.specs.declared.constraint.WrittenConstraint.{WrittenConstraint}
-use Rattle.recorded_case.specs.declared.constraint.WrittenConstraint.TheVariants.{Annotations, Email, Url}
+use Rattle.recorded_case.specs.declared.constraint.WrittenConstraint.TheVariants.{Annotations, Email, Url, Statements}
 use Rattle.recorded_chain.specs.Built.{Builds}
 use Rattle.recorded_chain.specs.Holds.{HoldsUnder, Holds}
 use Rattle.recorded_chain.specs.declared.input.ChainInput.{ChainInput}
@@ -57,6 +57,7 @@ module _ (V W : Type 0) (H : V → Type 0) (I : W → Type 0) (own : CustomVerdi
   accepts_same (Annotations asked) = refl
   accepts_same (Email asked) = refl
   accepts_same (Url asked) = refl
+  accepts_same (Statements types) = refl
 
   Accepts : Constraint V H → Type 0
   Accepts c = IsTrue (accepts {V = V} {H = H} own c layer)

@@ -1,6 +1,6 @@
 use Rattle.std.proofs.Common.{◌∙◌, sym, ap}
 use Rattle.oci_digests.specs.Names.{digest_text}
-use Rattle.oci_digests.specs.declared.digester.Algorithm.TheVariants.{Sha256}
+use Rattle.oci_names.specs.declared.algorithm.Algorithm.TheVariants.{Sha256}
 use Rattle.cosign_parts.specs.Trust.{trust}
 use Rattle.recorded_chain.proofs.BuiltImages.{gives_one, gives_none}
 use Rattle.recorded_chain.proofs.built.signature_of.Goals as goal
