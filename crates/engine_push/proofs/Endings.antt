@@ -1,7 +1,7 @@
 -- Why the steps of a push are refused: not because of the source, and for a body that is too long only by the last
 -- response.
 use Rattle.std.proofs.Common.{◌≡◌, ◌<◌, ℕ, Bool, true, false, List, [], ◌∷◌, ◌++◌, Option, Some, None, Result, Ok, Err, codes, length, refl, sym, ap, subst, ◌∙◌, append-nil, append_assoc}
-use Rattle.std.specs.Prelude.{◌+◌, nat_lt, nat_eq, decimal, ◌&&◌, if◌then◌else◌}
+use Rattle.std.specs.Prelude.{◌+◌, nat_eq, decimal, ◌&&◌, if◌then◌else◌, ok_or}
 use Rattle.std.specs.FinMap as map
 use Rattle.url.specs.Parts.{Parts, serialize}
 use Rattle.url.specs.Setters.{append_query_pairs}
@@ -14,7 +14,7 @@ use Rattle.oci_auth.specs.declared.token_type.RegistryOperation.TheVariants.{Pus
 use Rattle.oci_auth.specs.declared.token_type.RegistryTokenType.{RegistryTokenType}
 use Rattle.oci_names.specs.Reference.{resolved_registry}
 use Rattle.oci_names.specs.declared.reference.Reference.{Reference}
-use Rattle.oci_transport.specs.Headers.{Fields, added, held, first_of, is_text, is_header_value}
+use Rattle.oci_transport.specs.Headers.{Fields, added, first_of, is_text, is_header_value, has_room}
 use Rattle.oci_transport.specs.Link.{Link}
 use Rattle.oci_transport.specs.Urls.{request_url}
 use Rattle.oci_transport.specs.declared.message.AnswerHead.{AnswerHead}
@@ -30,7 +30,8 @@ use Rattle.oci_protocol.proofs.Ends.{Ends-any, Ends-bind, Runs-ends}
 use Rattle.oci_protocol.proofs.RunFacts.{done_run, EveryRun-done, EveryRun-more, EveryRun-each, EveryRun-follow, Meets-shows-err}
 use Rattle.oci_transport.specs.declared.message.Exchange.{Exchange}
 use Rattle.engine_terms.specs.Contexts.{Context}
-use Rattle.engine_terms.specs.Error.{is_memory, ◌>>=◌ as ◌into◌}
+use Rattle.json_values.specs.Refusals.{◌>>=◌ as ◌into◌}
+use Rattle.engine_terms.specs.Error.{is_memory}
 use Rattle.engine_terms.specs.declared.error.GenericCause.TheVariants.{HeaderText, NoSize, SizeDiffers}
 use Rattle.engine_terms.specs.declared.error.SpecViolation.TheVariants.{Status}
 use Rattle.engine_terms.specs.declared.error.OciDistributionError.{OciDistributionError}
@@ -41,11 +42,11 @@ use Rattle.engine_requests.specs.Requests.{with_header, with_accept, with_token,
 use Rattle.engine_rows.specs.Rows.{Row, token_step, passed_over, taken, token_asked, kept_or_asked, token_by, token_for, goes_to, token_where, authorized}
 use Rattle.engine_answers.specs.Answers.{is_success}
 use Rattle.engine_push.specs.Bodies.{LastLong}
-use Rattle.engine_push.specs.Contents.{range_text, with_length, with_type, with_content, with_fields}
+use Rattle.engine_push.specs.Contents.{range_text, octet_stream, with_length, with_type, with_content, with_fields}
 use Rattle.engine_push.specs.Locations.{resolved, location_of, located}
 use Rattle.engine_push.specs.Uploads.{unless_success, location_reply, location_after, sent, upload_begun, chunk_sent, upload_ended, chunks_sent}
 use Rattle.engine_push.specs.declared.content.Content.{Content}
-use Rattle.engine_push.specs.declared.content.Content.TheVariants.{Nothing, Whole, Chunk}
+use Rattle.engine_push.specs.declared.content.Content.TheVariants.{Nothing, Whole, Chunk, Document}
 
 -- ---- the token step
 
@@ -106,8 +107,8 @@ into_textual (Ok a) f h each = each a
 into_textual (Err e) f h each = h
 
 header_textual : (headers : Fields) (name value : List ℕ) → Textual (with_header headers name value)
-header_textual headers name value = by_test (is_header_value value && nat_lt (held headers) 1000) where
-  by_test : (b : Bool) → Textual (if b then Ok (added headers name value) else Err (refusal.GenericError HeaderText))
+header_textual headers name value = by_test (is_header_value value && has_room headers) where
+  by_test : (b : Bool) → Textual (ok_or (if b then Some (added headers name value) else None) (refusal.GenericError HeaderText))
   by_test true = tt
   by_test false = refl
 
@@ -119,14 +120,15 @@ pub made_textual : (s : Settings) (method : Method) (url : Parts) (token : Optio
 unfolding request_of
 made_textual s method url token = into_textual (headers_of s None token) _ (into_textual (with_header map.empty (codes "user-agent") s.user_agent into with_accept None) (with_token token) (into_textual (with_header map.empty (codes "user-agent") s.user_agent) (with_accept None) (header_textual map.empty (codes "user-agent") s.user_agent) (λ headers. tt)) (token_textual token)) (λ headers. tt)
 
-sized_textual : (bytes : List ℕ) (headers : Fields) → Textual (with_length bytes headers into with_type)
-sized_textual bytes headers = into_textual (with_length bytes headers) with_type (header_textual headers (codes "content-length") (decimal (length bytes))) (λ headers. header_textual headers (codes "content-type") (codes "application/octet-stream"))
+sized_textual : (bytes : List ℕ) (headers : Fields) → Textual (with_length bytes headers into with_type octet_stream)
+sized_textual bytes headers = into_textual (with_length bytes headers) (with_type octet_stream) (header_textual headers (codes "content-length") (decimal (length bytes))) (λ headers. header_textual headers (codes "content-type") octet_stream)
 
 fields_textual : (content : Content) (headers : Fields) → Textual (with_fields content headers)
 fields_textual Nothing headers = header_textual headers (codes "content-length") (decimal 0)
 fields_textual (Whole bytes) headers = sized_textual bytes headers
-fields_textual (Chunk start bytes) headers = into_textual (with_header headers (codes "content-range") (range_text start bytes) into with_length bytes) with_type
-    (into_textual (with_header headers (codes "content-range") (range_text start bytes)) (with_length bytes) (header_textual headers (codes "content-range") (range_text start bytes)) (λ headers. header_textual headers (codes "content-length") (decimal (length bytes)))) (λ headers. header_textual headers (codes "content-type") (codes "application/octet-stream"))
+fields_textual (Chunk start bytes) headers = into_textual (with_header headers (codes "content-range") (range_text start bytes) into with_length bytes) (with_type octet_stream)
+    (into_textual (with_header headers (codes "content-range") (range_text start bytes)) (with_length bytes) (header_textual headers (codes "content-range") (range_text start bytes)) (λ headers. header_textual headers (codes "content-length") (decimal (length bytes)))) (λ headers. header_textual headers (codes "content-type") octet_stream)
+fields_textual (Document kind bytes) headers = header_textual headers (codes "content-type") kind
 
 pub content_textual : (content : Content) (request : Request) → Textual (with_content content request)
 unfolding with_content

@@ -15,7 +15,8 @@ use Rattle.engine_terms.specs.declared.error.OciDistributionError.TheVariants as
 use Rattle.engine_rows.specs.Rows.{Row}
 use Rattle.engine_rows.proofs.Exits.{refused, wanting, and_then, done}
 use Rattle.engine_push.specs.Uploads.{chunk_size, first_chunks, chunks, chunk_sent, chunks_sent}
-use Rattle.engine_push.proofs.Carried.{Carries, CarriesFront, carries_none, carries_more, carries_front, front_behind_more, front_of_more}
+use Rattle.engine_push.specs.PieceStates.{part}
+use Rattle.engine_push.proofs.Carried.{Carries, CarriesFront, carries_none, carries_more, carries_front, front_behind_more, front_of_more, dropped_fewer}
 
 pub record LeadsTo {A : Type 0} (p q : Row A) (old mid : Link) (k j : AuthState) : Type 0 where
   pub met : (new : Link) (l : AuthState) (r : Result A OciDistributionError) → Meets is_memory q mid new j l r → Meets is_memory p old new k l r
@@ -46,30 +47,27 @@ pub record Unrolled (n : ℕ) (left : List ℕ) : Type 0 where
   pub is : first_chunks n left ≡ take chunk_size left ∷ first_chunks fewer (drop chunk_size left)
   pub enough : length (drop chunk_size left) ≤ fewer
 
-drop_shorter : (c : ℕ) (xs : List ℕ) → length (drop c xs) ≤ length xs
-drop_shorter zero xs = omega arith
-drop_shorter (suc c) [] = omega arith
-drop_shorter (suc c) (x ∷ xs) = let rest = drop_shorter c xs in omega (arith, rest)
-
-dropped_fewer : (m n : ℕ) (x : ℕ) (xs : List ℕ) → length (x ∷ xs) ≤ suc n → length (drop (suc m) (x ∷ xs)) ≤ n
-dropped_fewer m n x xs le = let rest = drop_shorter m xs in omega (arith, rest, le)
-
 pub unrolled : (n : ℕ) (left : List ℕ) → 0 < length left → length left ≤ n → Unrolled n left
 unrolled n [] some le = absurd (omega (arith, some))
 unrolled zero (x ∷ xs) some le = absurd (omega (arith, le))
 unrolled (suc n) (x ∷ xs) some le = record { fewer = n; is = refl; enough = dropped_fewer 4194303 n x xs le }
 
+-- the first chunk is not empty
+first_part : (left : List ℕ) → 0 < length left → part (take chunk_size left) ≡ take chunk_size left ∷ []
+first_part [] some = absurd (omega (arith, some))
+first_part (x ∷ xs) some = refl
+
 none_left : (n : ℕ) → first_chunks n [] ≡ []
 none_left zero = refl
 none_left (suc n) = refl
 
--- these bytes of them were sent, and those are left
+-- these chunks of them were sent, and those bytes are left
 pub record Chunking (s : Context) (image : Reference) (first : List ℕ) (from : ℕ) (bytes location : List ℕ) (start : ℕ) (left : List ℕ) (old mid : Link) (k j : AuthState) : Type 0 where
   pub times : ℕ
   pub enough : length left ≤ times
   pub leads : LeadsTo (chunks_sent s image first from (chunks bytes)) (chunks_sent s image location start (first_chunks times left)) old mid k j
-  pub gone : List ℕ
-  pub split : bytes ≡ gone ++ left
+  pub gone : List (List ℕ)
+  pub split : chunks bytes ≡ gone ++ first_chunks times left
   pub carried : Carries gone old mid
   pub fits : start + length left < 2 ^ 64
 
@@ -85,18 +83,18 @@ module _ (s : Context) (image : Reference) (first : List ℕ) (from : ℕ) (byte
     by_nil [] none = none_left chunking.times
     by_nil (x ∷ xs) none = absurd (omega (arith, none))
 
-  pub chunking_sent : length left ≡ 0 → Carries bytes old mid
+  pub chunking_sent : length left ≡ 0 → Carries (chunks bytes) old mid
   chunking_sent none = by_nil left none chunking.split where
-    by_nil : (left : List ℕ) → length left ≡ 0 → bytes ≡ chunking.gone ++ left → Carries bytes old mid
-    by_nil [] none split = subst (λ all. Carries all old mid) (sym (split ∙ append-nil chunking.gone)) chunking.carried
+    by_nil : (left : List ℕ) → length left ≡ 0 → chunks bytes ≡ chunking.gone ++ first_chunks chunking.times left → Carries (chunks bytes) old mid
+    by_nil [] none split = subst (λ all. Carries all old mid) (sym (split ∙ ap (λ rest. chunking.gone ++ rest) (none_left chunking.times) ∙ append-nil chunking.gone)) chunking.carried
     by_nil (x ∷ xs) none split = absurd (omega (arith, none))
 
   -- memory ran out before the next one
   pub chunking_wanting : (r : Result (List ℕ) OciDistributionError) → IsErrAnd r (λ e. e ≡ refusal.WantOfMemory) → Meets is_memory (chunks_sent s image first from (chunks bytes)) old mid k j r
   chunking_wanting r is = chunking.leads.met mid j r (wanting is)
 
-  pub chunking_front : CarriesFront bytes old mid
-  chunking_front = subst (λ all. CarriesFront all old mid) (sym chunking.split) (front_of_more left (carries_front chunking.carried))
+  pub chunking_front : CarriesFront (chunks bytes) old mid
+  chunking_front = subst (λ all. CarriesFront all old mid) (sym chunking.split) (front_of_more (first_chunks chunking.times left) (carries_front chunking.carried))
 
   -- the next one
   next_leads : (some : 0 < length left) → LeadsTo (chunks_sent s image first from (chunks bytes)) (chunk_sent s image location start (take chunk_size left) >>= λ next. chunks_sent s image next (start + length (take chunk_size left)) (first_chunks (unrolled chunking.times left some chunking.enough).fewer (drop chunk_size left))) old mid k j
@@ -107,13 +105,16 @@ module _ (s : Context) (image : Reference) (first : List ℕ) (from : ℕ) (byte
       → Meets is_memory (chunks_sent s image first from (chunks bytes)) old new k l r
   chunking_refused {new} {l} chunk e r some is met same = (next_leads some).met new l r (refused _ (subst (λ part. Meets is_memory (chunk_sent s image location start part) mid new j l (Err e)) (is ∙ take_least chunk_size left) met) same)
 
-  front_split : (chunk : List ℕ) → chunk ≡ take (min (length left) chunk_size) left → bytes ≡ (chunking.gone ++ chunk) ++ drop chunk_size left
-  front_split chunk is = chunking.split ∙ ap (λ rest. chunking.gone ++ rest) (sym (take-drop chunk_size left) ∙ ap (λ part. part ++ drop chunk_size left) (sym (is ∙ take_least chunk_size left))) ∙ sym (append_assoc chunking.gone chunk (drop chunk_size left))
+  front_split : (some : 0 < length left) (chunk : List ℕ) → chunk ≡ take (min (length left) chunk_size) left → chunks bytes ≡ (chunking.gone ++ part chunk) ++ first_chunks (unrolled chunking.times left some chunking.enough).fewer (drop chunk_size left)
+  front_split some chunk is =
+      let by = unrolled chunking.times left some chunking.enough in
+      let rest = first_chunks by.fewer (drop chunk_size left) in
+      chunking.split ∙ ap (λ parts. chunking.gone ++ parts) (by.is ∙ ap (λ parts. parts ++ rest) (sym (first_part left some) ∙ ap part (sym (is ∙ take_least chunk_size left)))) ∙ sym (append_assoc chunking.gone (part chunk) rest)
 
-  pub chunking_part : {new : Link} (chunk : List ℕ) → chunk ≡ take (min (length left) chunk_size) left → CarriesFront chunk mid new → CarriesFront bytes old new
-  chunking_part {new} chunk is sends = subst (λ all. CarriesFront all old new) (sym (front_split chunk is)) (front_of_more (drop chunk_size left) (front_behind_more chunking.carried sends))
+  pub chunking_part : {new : Link} (chunk : List ℕ) → 0 < length left → chunk ≡ take (min (length left) chunk_size) left → CarriesFront (part chunk) mid new → CarriesFront (chunks bytes) old new
+  chunking_part {new} chunk some is sends = subst (λ all. CarriesFront all old new) (sym (front_split some chunk is)) (front_of_more (first_chunks (unrolled chunking.times left some chunking.enough).fewer (drop chunk_size left)) (front_behind_more chunking.carried sends))
 
-  pub chunking_more : {new : Link} {l : AuthState} (chunk rest next : List ℕ) (count : ℕ) → 0 < length left → chunk ≡ take (min (length left) chunk_size) left → rest ≡ drop (min (length left) chunk_size) left → count ≡ start + length chunk → Meets is_memory (chunk_sent s image location start chunk) mid new j l (Ok next) → Carries chunk mid new
+  pub chunking_more : {new : Link} {l : AuthState} (chunk rest next : List ℕ) (count : ℕ) → 0 < length left → chunk ≡ take (min (length left) chunk_size) left → rest ≡ drop (min (length left) chunk_size) left → count ≡ start + length chunk → Meets is_memory (chunk_sent s image location start chunk) mid new j l (Ok next) → Carries (part chunk) mid new
       → Chunking s image first from bytes next count rest old new k l
   chunking_more {new} {l} chunk rest next count some is rest_is count_is met sent =
       let chunk_is : chunk ≡ take chunk_size left = is ∙ take_least chunk_size left in
@@ -124,8 +125,8 @@ module _ (s : Context) (image : Reference) (first : List ℕ) (from : ℕ) (byte
         times = by.fewer;
         enough = subst (λ xs. length xs ≤ by.fewer) (sym left_is) by.enough;
         leads = record { met = λ end m r h. (next_leads some).met end m r (and_then _ (subst (λ part. Meets is_memory (chunk_sent s image location start part) mid new j l (Ok next)) chunk_is met) (subst (λ at. Meets is_memory (chunks_sent s image next at (first_chunks by.fewer (drop chunk_size left))) new end l m r) (count_is ∙ ap (λ part. start + length part) chunk_is) (subst (λ xs. Meets is_memory (chunks_sent s image next count (first_chunks by.fewer xs)) new end l m r) left_is h))) };
-        gone = chunking.gone ++ chunk;
-        split = front_split chunk is ∙ ap (λ xs. (chunking.gone ++ chunk) ++ xs) (sym left_is);
+        gone = chunking.gone ++ part chunk;
+        split = front_split some chunk is ∙ ap (λ xs. (chunking.gone ++ part chunk) ++ first_chunks by.fewer xs) (sym left_is);
         carried = carries_more chunking.carried sent;
         fits = omega (arith, chunking.fits, whole, count_is);
       }

@@ -18,7 +18,8 @@ use Rattle.oci_protocol.proofs.Parts.{Runs-done}
 use Rattle.oci_protocol.proofs.RunFacts.{EveryRun-follow, Meets-shows-ok}
 use Rattle.oci_protocol.proofs.Safety.{Safe-once, Meets-safe}
 use Rattle.oci_protocol.proofs.RedirectSteps.{reached_headed, reached_answered, reached_long, reached_failed, reached_cut, missed, cut}
-use Rattle.engine_terms.specs.Error.{is_memory, Matches, ◌>>=◌ as ◌into◌}
+use Rattle.json_values.specs.Refusals.{Matches, ◌>>=◌ as ◌into◌}
+use Rattle.engine_terms.specs.Error.{is_memory}
 use Rattle.oci_transport.specs.Headers.{Fields}
 use Rattle.engine_terms.specs.declared.error.OciDistributionError.{OciDistributionError}
 use Rattle.engine_terms.specs.declared.error.OciDistributionError.TheVariants as refusal
@@ -26,6 +27,7 @@ use Rattle.engine_terms.specs.declared.settings.Settings.{Settings}
 use Rattle.engine_answers.specs.Answers.{is_success}
 use Rattle.engine_rows.proofs.Exits.{said}
 use Rattle.engine_push.specs.Bodies.{bodies, IsPrefix, Sends}
+use Rattle.engine_push.specs.PieceStates.{part}
 use Rattle.engine_push.specs.Contents.{bytes_of, with_fields, with_content}
 use Rattle.engine_push.specs.declared.content.Content.{Content}
 use Rattle.engine_push.specs.Locations.{located}
@@ -40,7 +42,7 @@ unfolding unless_success
 other_within limit head is = ap (λ b. limit_of (if b then Unread else Within limit)) is
 
 module _ (s : Settings) (image : Reference) (expected : ℕ) (request : Request) (k : AuthState) where
-  pub location_headed : (head : AnswerHead) (last : Request) (old new : Link) (r : Result (List ℕ) OciDistributionError) → Reaches 0 request head last old new → is_success head.status ≡ true → Matches r (located s image expected last.url head) → Meets is_memory (location_after s image expected request) old new k k r
+  pub location_headed : (head : AnswerHead) (last : Request) (old new : Link) (r : Result (List ℕ) OciDistributionError) → Reaches 0 request head last old new → is_success head.status ≡ true → Matches is_memory r (located s image expected last.url head) → Meets is_memory (location_after s image expected request) old new k k r
   unfolding location_after
   location_headed head last old new r reach is says = reached_headed 0 request (unless_success s.max_body_bytes) (location_reply s image expected) head last reach (success_unread s.max_body_bytes head is) (said r says)
 
@@ -54,10 +56,10 @@ module _ (s : Settings) (image : Reference) (expected : ℕ) (request : Request)
   unfolding location_after
   location_long head last old mid new reach is le same steady long = reached_long 0 request (unless_success s.max_body_bytes) (location_reply s image expected) head last s.max_body_bytes reach (other_within s.max_body_bytes head is) le same steady long (Meets-err is_memory new k refusal.BodyTooLong refl)
 
-  pub location_failed : (head : AnswerHead) (last : Request) (old mid new : Link) → Reaches 0 request head last old mid → mid.faults ≤ new.faults → new.told ≡ mid.told → Steady mid new → Increased mid.faults new.faults
+  pub location_failed : (head : AnswerHead) (last : Request) (old mid new : Link) → Reaches 0 request head last old mid → is_success head.status ≡ false → mid.faults ≤ new.faults → new.told ≡ mid.told → Steady mid new → Increased mid.faults new.faults
       → Meets is_memory (location_after s image expected request) old new k k (Err refusal.TransportFault)
   unfolding location_after
-  location_failed head last old mid new reach le same steady rose = reached_failed 0 request (unless_success s.max_body_bytes) (location_reply s image expected) head last reach le same steady rose (Meets-err is_memory new k refusal.TransportFault refl)
+  location_failed head last old mid new reach is le same steady rose = reached_failed 0 request (unless_success s.max_body_bytes) (location_reply s image expected) head last s.max_body_bytes reach (other_within s.max_body_bytes head is) le same steady rose (Meets-err is_memory new k refusal.TransportFault refl)
 
   pub location_wanting : (head : AnswerHead) (last : Request) (old mid new : Link) → Reaches 0 request head last old mid → mid.faults ≤ new.faults → new.told ≡ mid.told → Steady mid new → Meets is_memory (location_after s image expected request) old new k k (Err refusal.WantOfMemory)
   unfolding location_after
@@ -83,21 +85,21 @@ reply_done s image expected last SinkFailed = (_, refl)
 nothing_behind : (s : Settings) (image : Reference) (expected : ℕ) (last : Request) (reply : Reply) (k l : AuthState) (m n : ℕ) (c : List Exchange) (a : Result (List ℕ) OciDistributionError) → Runs (location_reply s image expected last reply) k m c n l a → c ≡ []
 nothing_behind s image expected last reply k l m n c a run = let at = reply_done s image expected last reply in (Runs-done at.0 k m c n l a (subst (λ p. Runs p k m c n l a) at.1 run)).0
 
-one_carried : (request last : Request) {reading : AnswerHead → Reading} (m after : ℕ) (c : List Exchange) (reply : Reply) → Heard zero request reading m c after last reply → bodies c ≡ request.body
+one_carried : (request last : Request) {reading : AnswerHead → Reading} (m after : ℕ) (c : List Exchange) (reply : Reply) → Heard zero request reading m c after last reply → bodies c ≡ part request.body
 unfolding Trail
 one_carried request last m after c reply h = by_trail h.redirects h.split h.trail where
-  by_trail : (redirects : List Exchange) → c ≡ redirects ++ h.exchange ∷ [] → Trail zero request m redirects h.left last h.before → bodies c ≡ request.body
-  by_trail [] split trail = ap bodies split ∙ append-nil h.exchange.request.body ∙ ap (λ (r : Request). r.body) (h.replies.request_is ∙ sym trail.1)
+  by_trail : (redirects : List Exchange) → c ≡ redirects ++ h.exchange ∷ [] → Trail zero request m redirects h.left last h.before → bodies c ≡ part request.body
+  by_trail [] split trail = ap bodies split ∙ append-nil (part h.exchange.request.body) ∙ ap (λ (r : Request). part r.body) (h.replies.request_is ∙ sym trail.1)
   by_trail (e ∷ redirects) split trail = absurd trail
 
-location_shown : (s : Settings) (image : Reference) (expected : ℕ) (request : Request) → EveryRun (WhenOk (λ m c n location. bodies c ≡ request.body)) (location_after s image expected request)
+location_shown : (s : Settings) (image : Reference) (expected : ℕ) (request : Request) → EveryRun (WhenOk (λ m c n location. bodies c ≡ part request.body)) (location_after s image expected request)
 unfolding location_after
-location_shown s image expected request = EveryRun-follow (WhenOk (λ m c n location. bodies c ≡ request.body)) 0 request (unless_success s.max_body_bytes) (location_reply s image expected) each where
-  by_answer : (c : List Exchange) (m o : ℕ) (r : Result (List ℕ) OciDistributionError) → bodies c ≡ request.body → WhenOk (λ m c n location. bodies c ≡ request.body) m c o r
+location_shown s image expected request = EveryRun-follow (WhenOk (λ m c n location. bodies c ≡ part request.body)) 0 request (unless_success s.max_body_bytes) (location_reply s image expected) each where
+  by_answer : (c : List Exchange) (m o : ℕ) (r : Result (List ℕ) OciDistributionError) → bodies c ≡ part request.body → WhenOk (λ m c n location. bodies c ≡ part request.body) m c o r
   by_answer c m o (Ok location) is = is
   by_answer c m o (Err e) is = tt
 
-  each : (k l : AuthState) (m after o : ℕ) (c d : List Exchange) (last : Request) (reply : Reply) (a : Result (List ℕ) OciDistributionError) → Heard 0 request (unless_success s.max_body_bytes) m c after last reply → Runs (location_reply s image expected last reply) k after d o l a → WhenOk (λ m c n location. bodies c ≡ request.body) m (c ++ d) o a
+  each : (k l : AuthState) (m after o : ℕ) (c d : List Exchange) (last : Request) (reply : Reply) (a : Result (List ℕ) OciDistributionError) → Heard 0 request (unless_success s.max_body_bytes) m c after last reply → Runs (location_reply s image expected last reply) k after d o l a → WhenOk (λ m c n location. bodies c ≡ part request.body) m (c ++ d) o a
   each k l m after o c d last reply a h run = by_answer (c ++ d) m o a (ap (λ rest. bodies (c ++ rest)) (nothing_behind s image expected last reply k l after o d a run) ∙ ap bodies (append-nil c) ∙ one_carried request last m after c reply h)
 
 -- the first one is the only one
@@ -114,21 +116,21 @@ location_once s image expected request k = Safe-once (λ k. Once request.body) (
   by_reply c TooLong = tt
   by_reply c SinkFailed = tt
 
-once_front : (body : List ℕ) (c : List Exchange) → EachAfter (Once body) [] c → IsPrefix (bodies c) body
-once_front body [] h = (body, refl)
-once_front body (e ∷ []) h = ([], sym (append-nil (bodies (e ∷ [])) ∙ append-nil e.request.body ∙ h.0.1))
+once_front : (body : List ℕ) (c : List Exchange) → EachAfter (Once body) [] c → IsPrefix (bodies c) (part body)
+once_front body [] h = (part body, refl)
+once_front body (e ∷ []) h = ([], sym (append-nil (bodies (e ∷ [])) ∙ append-nil (part e.request.body) ∙ ap part h.0.1))
 once_front body (e ∷ f ∷ c) h = absurd (cc h.1.0.0)
 
-pub location_sends : (s : Settings) (image : Reference) (expected : ℕ) (request : Request) {old new : Link} {k l : AuthState} (r : Result (List ℕ) OciDistributionError) → Meets is_memory (location_after s image expected request) old new k l r → Sends request.body old new r
-location_sends s image expected request (Ok location) met = Meets-shows-ok (λ m c n location. bodies c ≡ request.body) (location_shown s image expected request) met
+pub location_sends : (s : Settings) (image : Reference) (expected : ℕ) (request : Request) {old new : Link} {k l : AuthState} (r : Result (List ℕ) OciDistributionError) → Meets is_memory (location_after s image expected request) old new k l r → Sends (part request.body) old new r
+location_sends s image expected request (Ok location) met = Meets-shows-ok (λ m c n location. bodies c ≡ part request.body) (location_shown s image expected request) met
 location_sends s image expected request {k = k} (Err e) met =
     let told = Meets-safe (Once request.body) (λ k c. Unit {0}) (λ k c a. Unit {0}) (location_once s image expected request k) met in
     record { conversation = told.conversation; told = told.told; holds = once_front request.body told.conversation told.holds }
 
 -- the request is built with this content
-pub as_sent : {A E : Type 0} (content : Content) (bare request : Request) (old new : Link) (r : Result A E) → with_content content bare ≡ Ok request → Sends request.body old new r → Sends (bytes_of content) old new r
+pub as_sent : {A E : Type 0} (content : Content) (bare request : Request) (old new : Link) (r : Result A E) → with_content content bare ≡ Ok request → Sends (part request.body) old new r → Sends (part (bytes_of content)) old new r
 unfolding with_content
-as_sent {A} {E} content bare request old new r is sends = subst (λ bytes. Sends bytes old new r) (by_fields (with_fields content bare.headers) is) sends where
+as_sent {A} {E} content bare request old new r is sends = subst (λ bytes. Sends (part bytes) old new r) (by_fields (with_fields content bare.headers) is) sends where
   by_fields : (fields : Result Fields OciDistributionError) → (fields into (λ headers. Ok (record bare { headers = headers; body = bytes_of content }))) ≡ Ok request → request.body ≡ bytes_of content
   by_fields (Ok headers) is = let made : (record bare { headers = headers; body = bytes_of content }) ≡ request = cc is in sym (ap (λ (r : Request). r.body) made)
   by_fields (Err e) is = absurd (cc is)

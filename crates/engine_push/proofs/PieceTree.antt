@@ -12,8 +12,9 @@ use Rattle.oci_transport.specs.Link.{Link}
 use Rattle.oci_auth.specs.declared.auth_state.AuthState.{AuthState}
 use Rattle.oci_protocol.specs.Proto.{Done, ◌>>=◌}
 use Rattle.oci_protocol.specs.Runs.{Meets, Told}
+use Rattle.oci_protocol.proofs.Conversations.{Extends-more}
 use Rattle.oci_protocol.proofs.Laws.{Meets-consult, Meets-err, Meets-ok, Meets-memory, Meets-refused}
-use Rattle.byte_streams.specs.Source.{SourceState, Takes}
+use Rattle.oci_transport.specs.Pieces.{joined}
 use Rattle.byte_streams.proofs.Springs.{Consumes-none, Consumes-then}
 use Rattle.engine_terms.specs.Contexts.{Context}
 use Rattle.engine_terms.specs.Error.{is_memory}
@@ -25,10 +26,11 @@ use Rattle.engine_push.specs.Bodies.{bodies, IsPrefix}
 use Rattle.engine_terms.specs.declared.error.GenericCause.TheVariants.{NoSize, SizeDiffers}
 use Rattle.oci_transport.specs.declared.message.Exchange.{Exchange}
 use Rattle.engine_push.proofs.Endings.{StepTold, told_long}
-use Rattle.engine_push.specs.Sources.{TookMore, NoPiece, NotHeld, NotSent, SourceCause, IsPrefixOf, Pushes, AllConsumed, Hashed, sent_in}
+use Rattle.engine_push.specs.PieceStates.{PieceState, Takes, TakesPieces, NoneAhead, part}
+use Rattle.engine_push.specs.Sources.{cuts, AllCut, SomeCut, AllJoined, Cuts, AllGathered, TookMore, NoPiece, NotHeld, NotSent, SourceCause, IsPrefixOf, Pushes, AllConsumed, Hashed, sent_in}
 use Rattle.engine_push.specs.Uploads.{Sent, chunks, chunks_sent, piece_of, next_piece, no_longer, unless_last, pieces_sent, all_sent, pieces_read, all_read}
 use Rattle.engine_push.specs.declared.pieces.Upload.{Upload}
-use Rattle.engine_push.proofs.Carried.{Carries, CarriesFront, carries_none, carries_more}
+use Rattle.engine_push.proofs.Carried.{Carries, CarriesFront, carries_none, carries_more, bodies_both, joined_front, joined_one, joined_cuts, cuts_one, part_some}
 use Rattle.engine_push.proofs.Leads.{LeadsTo, leads_start, leads_next}
 
 -- ---- the next piece
@@ -84,36 +86,60 @@ on_last left piece end next {mid = mid} {j = j} none lead = record {
 on_longer : {A : Type 0} {p : Row A} (left : ℕ) (piece : List ℕ) (f : List ℕ → Row A) {old mid : Link} {k j : AuthState} → left < length piece → LeadsTo p (Done (no_longer left piece) >>= f) old mid k j → Meets is_memory p old mid k j (Err refusal.BodyTooLong)
 on_longer left piece f {mid = mid} {j = j} longer lead = lead.met mid j (Err refusal.BodyTooLong) (Meets-refused f (said (Err refusal.BodyTooLong) (is_longer left piece longer)))
 
+-- ---- pieces that were ahead
+
+pub takes_none : (state : PieceState) → TakesPieces [] state state
+takes_none state all is = (all, refl, is)
+
+pub takes_then : (a b c : PieceState) (first second : List (List ℕ)) → TakesPieces first a b → TakesPieces second b c → TakesPieces (first ++ second) a c
+takes_then a b c first second before after all is =
+    let one = before all is in
+    let two = after one.0 one.2 in
+    (two.0, one.1 ∙ ap (λ rest. first ++ rest) two.1 ∙ sym (append_assoc first second two.0), two.2)
+
+-- an empty one is none
+takes_last : (a b c : PieceState) (pieces : List (List ℕ)) (piece : List ℕ) → TakesPieces pieces a b → TakesPieces (part piece) b c → length piece ≡ 0 → TakesPieces pieces a c
+takes_last a b c pieces piece before after none = subst (λ xs. TakesPieces xs a c) (ap (λ last. pieces ++ part last) (nil_of piece none) ∙ append-nil pieces) (takes_then a b c pieces (part piece) before after)
+
+takes_one : (a b c : PieceState) (pieces : List (List ℕ)) (piece : List ℕ) → TakesPieces pieces a b → TakesPieces (part piece) b c → 0 < length piece → TakesPieces (pieces ++ piece ∷ []) a c
+takes_one a b c pieces piece before after some = subst (λ xs. TakesPieces (pieces ++ xs) a c) (part_some piece some) (takes_then a b c pieces (part piece) before after)
+
 -- ---- pieces that are sent
 
--- these bytes were taken and sent
-pub record Pumping (s : Context) (image : Reference) (first location : List ℕ) (size : ℕ) (digester : Option Digester) (before now : SourceState) (old mid : Link) (k j : AuthState) : Type 0 where
+-- these pieces were taken and sent
+pub record Pumping (s : Context) (image : Reference) (first location : List ℕ) (size : ℕ) (digester : Option Digester) (before now : PieceState) (old mid : Link) (k j : AuthState) : Type 0 where
   pub times : ℕ
   pub bytes : List ℕ
+  pub pieces : List (List ℕ)
+  pub bytes_are : bytes ≡ joined pieces
   pub size_is : size ≡ length bytes
   pub small : size ≤ s.settings.max_body_bytes
   pub more : s.settings.max_body_bytes - size < times
   pub leads : LeadsTo (all_sent s image first) (pieces_sent times (s.settings.max_body_bytes - size) s image location bytes) old mid k j
   pub hashed : Hashed digester bytes
   pub taken : Takes bytes before now
-  pub carried : Carries bytes old mid
+  pub ahead : TakesPieces pieces before now
+  pub carried : Carries (cuts pieces) old mid
   pub count : before.faults ≤ now.faults
 
-pub pumping_start : (s : Context) (image : Reference) (location : List ℕ) (digester : Option Digester) (source : SourceState) (link : Link) (k : AuthState) → Hashed digester [] → Pumping s image location location 0 digester source source link link k k
+pub pumping_start : (s : Context) (image : Reference) (location : List ℕ) (digester : Option Digester) (source : PieceState) (link : Link) (k : AuthState) → Hashed digester [] → Pumping s image location location 0 digester source source link link k k
 pumping_start s image location digester source link k hashed = record {
   times = suc s.settings.max_body_bytes;
   bytes = [];
+  pieces = [];
+  bytes_are = refl;
   size_is = refl;
   small = omega arith;
   more = omega arith;
   leads = let same : s.settings.max_body_bytes ≡ s.settings.max_body_bytes - 0 = omega arith in subst (λ left. LeadsTo (all_sent s image location) (pieces_sent (suc s.settings.max_body_bytes) left s image location []) link link k k) same (leads_start (all_sent s image location) link k);
   hashed = hashed;
   taken = Consumes-none source.left;
+  ahead = takes_none source;
   carried = carries_none link;
   count = omega arith;
 }
 
-module _ (s : Context) (image : Reference) (first location : List ℕ) (size : ℕ) (digester : Option Digester) {before now : SourceState} {old mid : Link} {k j : AuthState} (pumping : Pumping s image first location size digester before now old mid k j) where
+module _ (s : Context) (image : Reference) (first location : List ℕ) (size : ℕ) (digester : Option Digester) {before now : PieceState} {old mid : Link} {k j : AuthState} (pumping : Pumping s image first location size digester before now old mid k j) where
   abbrev left : ℕ
   left = s.settings.max_body_bytes - size
 
@@ -158,45 +184,94 @@ module _ (s : Context) (image : Reference) (first location : List ℕ) (size : �
       let at = err_from_is_err_and r is in
       rw (at.1, at.2) ((next_sent piece some small).met new l (Err e) (Meets-refused _ (subst (λ start. Meets is_memory (chunks_sent s image location start (chunks piece)) mid new j l (Err e)) pumping.size_is met)))
 
-  pub pumped : {new : Link} {l : AuthState} {after : SourceState} (piece next : List ℕ) (digester : Option Digester) (count : ℕ) → 0 < length piece → length piece ≤ left → count ≡ size + length piece → Meets is_memory (chunks_sent s image location size (chunks piece)) mid new j l (Ok next) → Carries piece mid new → Takes piece now after → now.faults ≤ after.faults → Hashed digester (pumping.bytes ++ piece)
+  pub pumped : {new : Link} {l : AuthState} {after : PieceState} (piece next : List ℕ) (digester : Option Digester) (count : ℕ) → 0 < length piece → length piece ≤ left → count ≡ size + length piece → Meets is_memory (chunks_sent s image location size (chunks piece)) mid new j l (Ok next) → Carries (chunks piece) mid new → Takes piece now after → TakesPieces (part piece) now after → now.faults ≤ after.faults → Hashed digester (pumping.bytes ++ piece)
       → Pumping s image first next count digester before after old new k l
-  pumped {new} {l} {after} piece next digester count some small count_is met sent taken rises hashed =
+  pumped {new} {l} {after} piece next digester count some small count_is met sent taken ahead rises hashed =
       let sum : count ≡ length (pumping.bytes ++ piece) = omega (arith, count_is, pumping.size_is, length-append pumping.bytes piece) in
       let rest : left - length piece ≡ s.settings.max_body_bytes - count = omega (arith, count_is) in
       record {
         times = opened.fewer;
         bytes = pumping.bytes ++ piece;
+        pieces = pumping.pieces ++ piece ∷ [];
+        bytes_are = ap (λ bytes. bytes ++ piece) pumping.bytes_are ∙ sym (joined_one pumping.pieces piece);
         size_is = sum;
         small = omega (arith, count_is, small, pumping.small);
         more = omega (arith, count_is, some, small, opened.enough);
         leads = subst (λ left. LeadsTo (all_sent s image first) (pieces_sent opened.fewer left s image next (pumping.bytes ++ piece)) old new k l) rest (leads_next (chunks_sent s image location (length pumping.bytes) (chunks piece)) _ (next_sent piece some small) (subst (λ start. Meets is_memory (chunks_sent s image location start (chunks piece)) mid new j l (Ok next)) pumping.size_is met));
         hashed = hashed;
         taken = Consumes-then before.left now.left after.left pumping.bytes piece pumping.taken taken;
-        carried = carries_more pumping.carried sent;
+        ahead = takes_one before now after pumping.pieces piece pumping.ahead ahead some;
+        carried = subst (λ parts. Carries parts old new) (sym (cuts_one pumping.pieces piece)) (carries_more pumping.carried sent);
         count = omega (arith, pumping.count, rises);
       }
 
+  -- the bodies are these bytes
+  pub pump_bytes : joined (cuts pumping.pieces) ≡ pumping.bytes
+  pump_bytes = joined_cuts pumping.pieces ∙ sym pumping.bytes_are
+
+  -- ---- how they were cut
+
+  pub cut_ended : {after : PieceState} (piece : List ℕ) → length piece ≡ 0 → TakesPieces (part piece) now after → (piece ≡ [] → NoneAhead after) → Told (λ c. AllCut before after (bodies c)) old mid
+  cut_ended {after} piece none next last = record {
+    conversation = pumping.carried.conversation;
+    told = pumping.carried.told;
+    holds = record { pieces = pumping.pieces; taken = takes_last before now after pumping.pieces piece pumping.ahead next none; cut = pumping.carried.holds; ended = last (nil_of piece none) };
+  }
+
+  -- this piece is held, and nothing of it was sent
+  pub cut_held : {after : PieceState} (piece : List ℕ) → TakesPieces (part piece) now after → Told (λ c. SomeCut before after (bodies c)) old mid
+  cut_held {after} piece next = record {
+    conversation = pumping.carried.conversation;
+    told = pumping.carried.told;
+    holds = record { pieces = pumping.pieces; held = piece; taken = takes_then before now after pumping.pieces (part piece) pumping.ahead next; first = []; of_held = (chunks piece, refl); cut = pumping.carried.holds ∙ sym (append-nil (cuts pumping.pieces)) };
+  }
+
+  -- a part of it was sent
+  pub cut_part : {after : PieceState} {new : Link} (piece : List ℕ) → TakesPieces (part piece) now after → CarriesFront (chunks piece) mid new → Told (λ c. SomeCut before after (bodies c)) old new
+  cut_part {after} {new} piece next sent = record {
+    conversation = pumping.carried.conversation ++ sent.conversation;
+    told = Extends-more old mid new pumping.carried.conversation sent.conversation pumping.carried.told sent.told;
+    holds = record {
+      pieces = pumping.pieces;
+      held = piece;
+      taken = takes_then before now after pumping.pieces (part piece) pumping.ahead next;
+      first = bodies sent.conversation;
+      of_held = sent.holds;
+      cut = bodies_both pumping.carried.conversation sent.conversation ∙ ap (λ xs. xs ++ bodies sent.conversation) pumping.carried.holds;
+    };
+  }
+
+-- a call that returned an error
+pub cuts_refused : {A E : Type 0} (before after : PieceState) {old new : Link} (r : Result A E) (e : E) → IsErrAnd r (λ x. x ≡ e) → Told (λ c. SomeCut before after (bodies c)) old new → Cuts before after old new r
+cuts_refused before after r e is told = let at = err_from_is_err_and r is in rw at.1 told
+
 -- ---- pieces that are held in memory
 
-pub record Holding (limit : ℕ) (held : List ℕ) (before now : SourceState) : Type 0 where
+pub record Holding (limit : ℕ) (held : List ℕ) (before now : PieceState) : Type 0 where
   pub times : ℕ
+  pub pieces : List (List ℕ)
+  pub held_are : held ≡ joined pieces
   pub small : length held ≤ limit
   pub more : limit - length held < times
   pub leads : (link : Link) (k : AuthState) → LeadsTo (all_read limit) (pieces_read times (limit - length held) held) link link k k
   pub taken : Takes held before now
+  pub ahead : TakesPieces pieces before now
   pub count : before.faults ≤ now.faults
 
-pub holding_start : (limit : ℕ) (source : SourceState) → Holding limit [] source source
+pub holding_start : (limit : ℕ) (source : PieceState) → Holding limit [] source source
 holding_start limit source = record {
   times = suc limit;
+  pieces = [];
+  held_are = refl;
   small = omega arith;
   more = omega arith;
   leads = λ link k. let same : limit ≡ limit - 0 = omega arith in subst (λ left. LeadsTo (all_read limit) (pieces_read (suc limit) left []) link link k k) same (leads_start (all_read limit) link k);
   taken = Consumes-none source.left;
+  ahead = takes_none source;
   count = omega arith;
 }
 
-module _ (limit : ℕ) (held : List ℕ) {before now : SourceState} (holding : Holding limit held before now) where
+module _ (limit : ℕ) (held : List ℕ) {before now : PieceState} (holding : Holding limit held before now) where
   abbrev room : ℕ
   room = limit - length held
 
@@ -236,43 +311,55 @@ module _ (limit : ℕ) (held : List ℕ) {before now : SourceState} (holding : H
   pub hold_wanting : (r : Result (List ℕ) OciDistributionError) → IsErrAnd r (λ e. e ≡ refusal.WantOfMemory) → (link : Link) (k : AuthState) → Meets is_memory (all_read limit) link link k k r
   hold_wanting r is link k = wanting is
 
-  pub held_more : {after : SourceState} (piece : List ℕ) → 0 < length piece → length piece ≤ room → Takes piece now after → now.faults ≤ after.faults → Holding limit (held ++ piece) before after
-  held_more {after} piece some small taken rises =
+  pub held_more : {after : PieceState} (piece : List ℕ) → 0 < length piece → length piece ≤ room → Takes piece now after → TakesPieces (part piece) now after → now.faults ≤ after.faults → Holding limit (held ++ piece) before after
+  held_more {after} piece some small taken ahead rises =
       let sum : length (held ++ piece) ≡ length held + length piece = length-append held piece in
       let rest : room - length piece ≡ limit - length (held ++ piece) = omega (arith, sum) in
       record {
         times = begun.fewer;
+        pieces = holding.pieces ++ piece ∷ [];
+        held_are = ap (λ bytes. bytes ++ piece) holding.held_are ∙ sym (joined_one holding.pieces piece);
         small = omega (arith, sum, small, holding.small);
         more = omega (arith, sum, some, small, begun.enough);
         leads = λ link k. subst (λ left. LeadsTo (all_read limit) (pieces_read begun.fewer left (held ++ piece)) link link k k) rest (on_piece room piece Held (Onward begun.fewer) some small (wanted piece link k));
         taken = Consumes-then before.left now.left after.left held piece holding.taken taken;
+        ahead = takes_one before now after holding.pieces piece holding.ahead ahead some;
         count = omega (arith, holding.count, rises);
       }
 
+  pub gathered : {after : PieceState} (piece : List ℕ) → length piece ≡ 0 → TakesPieces (part piece) now after → (piece ≡ [] → NoneAhead after) → AllJoined before after (part held)
+  gathered {after} piece none next last = record { pieces = holding.pieces; taken = takes_last before now after holding.pieces piece holding.ahead next none; whole = ap part holding.held_are; ended = last (nil_of piece none) }
+
+pub gathers_refused : {E : Type 0} (before after : PieceState) (r : Result (List ℕ) E) (e : E) → IsErrAnd r (λ x. x ≡ e) → AllGathered before after r
+gathers_refused before after r e is = let at = err_from_is_err_and r is in rw at.1 tt
+
 -- ---- what is left of a source
 
-pub all_taken : (before now after : SourceState) (bytes piece : List ℕ) → Takes bytes before now → Takes piece now after → length piece ≡ 0 → Takes bytes before after
+pub all_taken : (before now after : PieceState) (bytes piece : List ℕ) → Takes bytes before now → Takes piece now after → length piece ≡ 0 → Takes bytes before after
 all_taken before now after bytes piece first second none = subst (λ xs. Takes xs before after) (ap (λ xs. bytes ++ xs) (nil_of piece none) ∙ append-nil bytes) (Consumes-then before.left now.left after.left bytes piece first second)
 
-pub front_of_left : (before now : SourceState) (bytes : List ℕ) {old new : Link} → Takes bytes before now → CarriesFront bytes old new → Told (λ c. IsPrefixOf (bodies c) before.left) old new
-front_of_left before now bytes taken told = record { conversation = told.conversation; told = told.told; holds = by_left before.left now.left taken told.holds } where
-  by_left : (all rest : Option (List ℕ)) → Consumes all rest bytes → IsPrefix (bodies told.conversation) bytes → IsPrefixOf (bodies told.conversation) all
+pub front_of_left : (before now : PieceState) (bytes : List ℕ) (parts : List (List ℕ)) {old new : Link} → joined parts ≡ bytes → Takes bytes before now → CarriesFront parts old new → Told (λ c. IsPrefixOf (joined (bodies c)) before.left) old new
+front_of_left before now bytes parts {old} {new} is taken told = record { conversation = told.conversation; told = told.told; holds = by_left before.left now.left taken (subst (IsPrefix sent) is (joined_front (bodies told.conversation) parts told.holds)) } where
+  sent : List ℕ
+  sent = joined (bodies told.conversation)
+
+  by_left : (all rest : Option (List ℕ)) → Consumes all rest bytes → IsPrefix sent bytes → IsPrefixOf sent all
   by_left None rest taken front = tt
   by_left (Some all) None taken front = absurd taken
-  by_left (Some all) (Some rest) taken front = (front.0 ++ rest, taken ∙ ap (λ xs. xs ++ rest) front.1 ∙ append_assoc (bodies told.conversation) front.0 rest)
+  by_left (Some all) (Some rest) taken front = (front.0 ++ rest, taken ∙ ap (λ xs. xs ++ rest) front.1 ∙ append_assoc sent front.0 rest)
 
 -- nothing was sent
-pub none_of_left : (before : SourceState) {old new : Link} → CarriesFront [] old new → Told (λ c. IsPrefixOf (bodies c) before.left) old new
-none_of_left before told = front_of_left before before [] (Consumes-none before.left) told
+pub none_of_left : (before : PieceState) {old new : Link} → CarriesFront [] old new → Told (λ c. IsPrefixOf (joined (bodies c)) before.left) old new
+none_of_left before told = front_of_left before before [] [] refl (Consumes-none before.left) told
 
-pub pushes_all : (before after : SourceState) (bytes : List ℕ) {old new : Link} → Takes bytes before after → IsAtEnd after.left → Carries bytes old new → Told (λ c. Takes (bodies c) before after) old new × IsAtEnd after.left
-pushes_all before after bytes taken end told = (record { conversation = told.conversation; told = told.told; holds = subst (λ xs. Takes xs before after) (sym told.holds) taken }, end)
+pub pushes_all : (before after : PieceState) (bytes : List ℕ) (parts : List (List ℕ)) {old new : Link} → joined parts ≡ bytes → Takes bytes before after → IsAtEnd after.left → Carries parts old new → Told (λ c. Takes (joined (bodies c)) before after) old new × IsAtEnd after.left
+pushes_all before after bytes parts is taken end told = (record { conversation = told.conversation; told = told.told; holds = subst (λ xs. Takes xs before after) (sym (ap joined told.holds ∙ is)) taken }, end)
 
 -- a call that returned an error
-pub pushes_refused : {A E : Type 0} (before after : SourceState) {old new : Link} (r : Result A E) (e : E) → IsErrAnd r (λ x. x ≡ e) → Told (λ c. IsPrefixOf (bodies c) before.left) old new → Pushes before after old new r
+pub pushes_refused : {A E : Type 0} (before after : PieceState) {old new : Link} (r : Result A E) (e : E) → IsErrAnd r (λ x. x ≡ e) → Told (λ c. IsPrefixOf (joined (bodies c)) before.left) old new → Pushes before after old new r
 pushes_refused before after r e is told = let at = err_from_is_err_and r is in rw at.1 told
 
-pub gives_refused : {E : Type 0} (before after : SourceState) (r : Result (List ℕ) E) (e : E) → IsErrAnd r (λ x. x ≡ e) → AllConsumed before after r
+pub gives_refused : {E : Type 0} (before after : PieceState) (r : Result (List ℕ) E) (e : E) → IsErrAnd r (λ x. x ≡ e) → AllConsumed before after r
 gives_refused before after r e is = let at = err_from_is_err_and r is in rw at.1 tt
 
 rose_on : (a b c : ℕ) → a ≤ b → Increased b c → Increased a c
@@ -284,20 +371,27 @@ rose_on a b c le rose = omega (arith, le, rose)
 pub err_is : {A : Type 0} (P : OciDistributionError → Type 0) (r : Result A OciDistributionError) (e : OciDistributionError) → IsErrAnd r (λ x. x ≡ e) → P e → IfErr r P
 err_is P r e is h = let at = err_from_is_err_and r is in rw (at.1, at.2) h
 
-pub no_piece_held : (limit : ℕ) (before now after : SourceState) (e : OciDistributionError) → before.faults ≤ now.faults → NoPiece now after e → NotHeld limit before after e
+pub no_piece_held : (limit : ℕ) (before now after : PieceState) (e : OciDistributionError) → before.faults ≤ now.faults → NoPiece now after e → NotHeld limit before after e
 no_piece_held limit before now after refusal.SourceFault le h = rose_on before.faults now.faults after.faults le h
 no_piece_held limit before now after refusal.WantOfMemory le h = tt
 no_piece_held limit before now after _ le h = absurd h
 
-pub no_piece_sent : (limit : ℕ) (before now after : SourceState) (old new : Link) (e : OciDistributionError) → before.faults ≤ now.faults → NoPiece now after e → NotSent limit before after old new e
+pub no_piece_sent : (limit : ℕ) (before now after : PieceState) (old new : Link) (e : OciDistributionError) → before.faults ≤ now.faults → NoPiece now after e → NotSent limit before after old new e
 no_piece_sent limit before now after old new refusal.SourceFault le h = rose_on before.faults now.faults after.faults le h
 no_piece_sent limit before now after old new refusal.WantOfMemory le h = tt
 no_piece_sent limit before now after old new _ le h = absurd h
 
-pub took_more : (limit : ℕ) (before now after : SourceState) (bytes piece : List ℕ) → Takes bytes before now → Takes piece now after → limit < length bytes + length piece → TookMore limit before after
-took_more limit before now after bytes piece first second lt = (bytes ++ piece, Consumes-then before.left now.left after.left bytes piece first second, omega (arith, lt, length-append bytes piece))
+pub took_more : (limit : ℕ) (before now after : PieceState) (pieces : List (List ℕ)) (bytes piece : List ℕ) → bytes ≡ joined pieces → Takes bytes before now → TakesPieces pieces before now → Takes piece now after → TakesPieces (part piece) now after → length bytes ≤ limit → limit < length bytes + length piece → TookMore limit before after
+took_more limit before now after pieces bytes piece is first ahead second next le lt = record {
+  pieces = pieces;
+  last = piece;
+  taken = takes_one before now after pieces piece ahead next (omega (arith, le, lt));
+  bytes = subst (λ xs. Takes (xs ++ piece) before after) is (Consumes-then before.left now.left after.left bytes piece first second);
+  within = subst (λ xs. length xs ≤ limit) is le;
+  exceeds = subst (λ xs. limit < length (xs ++ piece)) is (omega (arith, lt, length-append bytes piece));
+}
 
-pub step_sent : (limit : ℕ) (before after : SourceState) (old new : Link) (e : OciDistributionError) → StepTold limit old new e → NotSent limit before after old new e
+pub step_sent : (limit : ℕ) (before after : PieceState) (old new : Link) (e : OciDistributionError) → StepTold limit old new e → NotSent limit before after old new e
 step_sent limit before after old new refusal.BodyTooLong h = inr h
 step_sent limit before after old new refusal.SourceFault h = absurd h
 step_sent limit before after old new refusal.PushNoDataError h = h
@@ -313,7 +407,7 @@ step_behind limit P old mid new (refusal.GenericError NoSize) told h = h
 step_behind limit P old mid new (refusal.GenericError SizeDiffers) told h = h
 step_behind limit P old mid new _ told h = tt
 
-pub sent_behind : (limit : ℕ) (before after : SourceState) (P : List Exchange → Type 0) (old mid new : Link) (e : OciDistributionError) → Told P old mid → NotSent limit before after mid new e → NotSent limit before after old new e
+pub sent_behind : (limit : ℕ) (before after : PieceState) (P : List Exchange → Type 0) (old mid new : Link) (e : OciDistributionError) → Told P old mid → NotSent limit before after mid new e → NotSent limit before after old new e
 sent_behind limit before after P old mid new refusal.BodyTooLong told (inl h) = inl h
 sent_behind limit before after P old mid new refusal.BodyTooLong told (inr h) = inr (told_long limit P told h)
 sent_behind limit before after P old mid new refusal.SourceFault told h = h
@@ -322,17 +416,17 @@ sent_behind limit before after P old mid new (refusal.GenericError NoSize) told 
 sent_behind limit before after P old mid new (refusal.GenericError SizeDiffers) told h = h
 sent_behind limit before after P old mid new _ told h = tt
 
-pub sent_source : (limit : ℕ) (size : Option ℕ) (before after : SourceState) (old new : Link) (e : OciDistributionError) → NotSent limit before after old new e → SourceCause limit size before after old new e
+pub sent_source : (limit : ℕ) (size : Option ℕ) (before after : PieceState) (old new : Link) (e : OciDistributionError) → NotSent limit before after old new e → SourceCause limit size before after old new e
 sent_source limit size before after old new refusal.PushNoDataError h = absurd h
 sent_source limit size before after old new (refusal.GenericError NoSize) h = absurd h
 sent_source limit size before after old new (refusal.GenericError SizeDiffers) h = absurd h
 sent_source limit size before after old new _ h = h
 
-pub held_source : (limit : ℕ) (size : Option ℕ) (before after : SourceState) (old new : Link) (e : OciDistributionError) → NotHeld limit before after e → SourceCause limit size before after old new e
+pub held_source : (limit : ℕ) (size : Option ℕ) (before after : PieceState) (old new : Link) (e : OciDistributionError) → NotHeld limit before after e → SourceCause limit size before after old new e
 held_source limit size before after old new refusal.SourceFault h = h
 held_source limit size before after old new refusal.BodyTooLong h = inl h
 held_source limit size before after old new refusal.WantOfMemory h = tt
 held_source limit size before after old new _ h = absurd h
 
-pub step_source : (limit : ℕ) (size : Option ℕ) (before after : SourceState) (old new : Link) (e : OciDistributionError) → StepTold limit old new e → SourceCause limit size before after old new e
+pub step_source : (limit : ℕ) (size : Option ℕ) (before after : PieceState) (old new : Link) (e : OciDistributionError) → StepTold limit old new e → SourceCause limit size before after old new e
 step_source limit size before after old new e h = sent_source limit size before after old new e (step_sent limit before after old new e h)

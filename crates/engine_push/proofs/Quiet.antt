@@ -12,11 +12,10 @@ use Rattle.oci_transport.specs.declared.message.Exchange.{Exchange}
 use Rattle.oci_transport.specs.declared.message.Method.{Method}
 use Rattle.oci_names.specs.declared.reference.Reference.{Reference}
 use Rattle.oci_names.specs.Reference.{resolved_registry}
-use Rattle.oci_auth.specs.Auth.{own_token}
+use Rattle.oci_auth.specs.Auth.{own_token, unasked}
 use Rattle.oci_auth.specs.Cache.{key_of, token_at}
 use Rattle.oci_auth.specs.Kept.{Key}
 use Rattle.oci_auth.specs.declared.auth.RegistryAuth.{RegistryAuth}
-use Rattle.oci_auth.specs.declared.auth.RegistryAuth.TheVariants as credentials
 use Rattle.oci_auth.specs.declared.auth_state.AuthState.{AuthState}
 use Rattle.oci_auth.specs.declared.token_type.RegistryOperation.{RegistryOperation}
 use Rattle.oci_auth.specs.declared.token_type.RegistryTokenType.{RegistryTokenType}
@@ -26,7 +25,8 @@ use Rattle.oci_protocol.specs.Runs.{Meets, Told}
 use Rattle.oci_protocol.specs.Safe.{Safe, EachAfter}
 use Rattle.oci_protocol.proofs.Safety.{Safe-bind, Safe-once, Meets-safe}
 use Rattle.engine_terms.specs.Contexts.{Context}
-use Rattle.engine_terms.specs.Error.{is_memory, ◌>>=◌ as ◌into◌}
+use Rattle.json_values.specs.Refusals.{◌>>=◌ as ◌into◌}
+use Rattle.engine_terms.specs.Error.{is_memory}
 use Rattle.engine_terms.specs.declared.error.OciDistributionError.{OciDistributionError}
 use Rattle.engine_terms.specs.declared.settings.Settings.{Settings}
 use Rattle.engine_requests.specs.Addresses.{registry_text, base_text, url_read}
@@ -34,8 +34,9 @@ use Rattle.engine_requests.specs.Requests.{headers_of, bare_request, request_of}
 use Rattle.engine_requests.specs.Tokens.{wanted, realm_url, realm_request, token_read}
 use Rattle.engine_requests.specs.declared.tokens.Wanted.{Wanted}
 use Rattle.engine_requests.specs.declared.tokens.Wanted.TheVariants as wants
-use Rattle.engine_rows.specs.Rows.{Row, whole, whole_reply, head_after, head_reply, realm_asked, fetched, registry_asked, token_step, with_kept, taken, passed_over, token_asked, kept_or_asked, token_by, token_for, goes_to, token_where, authorized}
+use Rattle.engine_rows.specs.Rows.{Row, whole, whole_reply, head_after, head_reply, realm_asked, fetched, registry_asked, unasked_or_asked, token_step, with_kept, taken, passed_over, token_asked, kept_or_asked, token_by, token_for, goes_to, token_where, authorized}
 use Rattle.engine_push.specs.Bodies.{bodies}
+use Rattle.engine_push.specs.PieceStates.{part}
 
 -- a request that is built from a URL has no body
 pub made_bodiless : (s : Settings) (method : Method) (url : Parts) (types : Option (List ℕ)) (token : Option RegistryTokenType) (request : Request) → request_of s method url types token ≡ Ok request → request.body ≡ []
@@ -133,9 +134,10 @@ quiet_registry s image a op = quiet_step (url_read (base_text s image)) _ (λ ur
     quiet_next (head_after 0 request) _ (quiet_head request (made_bodiless s _ url None None request made)) (λ head. quiet_fetched s image a op (wanted head))))
 
 quiet_token : (s : Settings) (image : Reference) (a : RegistryAuth) (op : RegistryOperation) → Quiet (token_step s image a op)
-quiet_token s image (credentials.Bearer token) op = quiet_done _
-quiet_token s image (credentials.Basic user password) op = quiet_registry s image (credentials.Basic user password) op
-quiet_token s image credentials.Anonymous op = quiet_registry s image credentials.Anonymous op
+quiet_token s image a op = by_unasked (unasked a) where
+  by_unasked : (o : Option RegistryTokenType) → Quiet (unasked_or_asked s image a op o)
+  by_unasked (Some token) = quiet_done _
+  by_unasked None = quiet_registry s image a op
 
 quiet_taken : (moment : ℕ) (key : Key) (r : Result (Option RegistryTokenType) OciDistributionError) → Quiet (taken moment key r)
 quiet_taken moment key (Ok None) = quiet_done (Ok None)
@@ -170,7 +172,7 @@ quiet_authorized s image op url = quiet_step (url_read (registry_text s.settings
 
 no_bodies : (seen c : List Exchange) → EachAfter (λ c request. request.body ≡ []) seen c → bodies c ≡ []
 no_bodies seen [] h = refl
-no_bodies seen (e ∷ c) h = ap (λ body. body ++ bodies c) h.0 ∙ no_bodies (seen ++ e ∷ []) c h.1
+no_bodies seen (e ∷ c) h = ap (λ body. part body ++ bodies c) h.0 ∙ no_bodies (seen ++ e ∷ []) c h.1
 
 -- those of a token step before a request
 pub token_bodiless : (s : Context) (image : Reference) (op : RegistryOperation) (url : Parts) {old new : Link} {k l : AuthState} {r : Result (Option RegistryTokenType) OciDistributionError} → Meets is_memory (authorized s image op url) old new k l r → Told (λ c. bodies c ≡ []) old new

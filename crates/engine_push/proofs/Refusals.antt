@@ -1,29 +1,13 @@
 -- Results of steps that make no request, one after another.
-use Rattle.std.proofs.Common.{◌≡◌, ℕ, List, Bool, true, false, Result, Ok, Err, codes, refl}
-use Rattle.std.specs.Prelude.{MatchBool}
-use Rattle.std.specs.Result.{IsErrAnd}
-use Rattle.std.proofs.lemmas.Result.{err_from_is_err_and}
+use Rattle.std.proofs.Common.{ℕ, List, Result, Ok, Err, codes}
 use Rattle.engine_terms.specs.declared.error.OciDistributionError.{OciDistributionError}
-use Rattle.engine_terms.specs.Error.{is_memory, Matches, ◌>>=◌}
+use Rattle.json_values.specs.Refusals.{Matches, ◌>>=◌}
+use Rattle.engine_terms.specs.Error.{is_memory}
 use Rattle.oci_transport.specs.Headers.{Fields}
 use Rattle.engine_requests.specs.Requests.{with_header}
-use Rattle.engine_push.specs.Contents.{range_text, with_length, with_type, with_fields}
-use Rattle.engine_push.specs.declared.content.Content.TheVariants.{Chunk}
-
--- a refusal that is passed on
-pub says_on : {A : Type 0} (r : Result A OciDistributionError) (e : OciDistributionError) (said : Result A OciDistributionError) → Matches {A = A} (Err e) said → IsErrAnd r (λ x. x ≡ e) → Matches r said
-says_on r e said says is = let at = err_from_is_err_and r is in rw (at.1, at.2) says
-
--- a step that returned an error
-pub says_first : {A B : Type 0} (e : OciDistributionError) (first : Result A OciDistributionError) (f : A → Result B OciDistributionError) → Matches {A = A} (Err e) first → Matches {A = B} (Err e) (first >>= f)
-says_first {A} {B} e first f says = by_memory (is_memory e) says where
-  by_memory : (b : Bool) → MatchBool b (Unit {0}) (first ≡ Err e) → MatchBool b (Unit {0}) ((first >>= f) ≡ Err e)
-  by_memory true h = tt
-  by_memory false h = rw h refl
-
--- and one after a step that did not
-pub says_next : {A B : Type 0} (a : A) (r : Result B OciDistributionError) (first : Result A OciDistributionError) (f : A → Result B OciDistributionError) → Matches (Ok a) first → Matches r (f a) → Matches r (first >>= f)
-says_next a r first f is says = rw is says
+use Rattle.engine_push.specs.Contents.{range_text, octet_stream, with_length, with_type, with_fields}
+use Rattle.engine_push.specs.declared.content.Content.TheVariants.{Whole, Chunk}
+use Rattle.json_values.proofs.Refusals.{says_first, says_next}
 
 -- ---- the fields of a chunk
 
@@ -31,11 +15,15 @@ module _ (start : ℕ) (bytes : List ℕ) (headers : Fields) where
   abbrev range : Result Fields OciDistributionError
   range = with_header headers (codes "content-range") (range_text start bytes)
 
-  pub range_refused : (e : OciDistributionError) → Matches {A = Fields} (Err e) range → Matches {A = Fields} (Err e) (with_fields (Chunk start bytes) headers)
-  range_refused e says = says_first e (range >>= with_length bytes) with_type (says_first e range (with_length bytes) says)
+  pub range_refused : (e : OciDistributionError) → Matches {A = Fields} is_memory (Err e) range → Matches {A = Fields} is_memory (Err e) (with_fields (Chunk start bytes) headers)
+  range_refused e says = says_first is_memory e (range >>= with_length bytes) (with_type octet_stream) (says_first is_memory e range (with_length bytes) says)
 
-  pub length_refused : (e : OciDistributionError) (ranged : Fields) → Matches (Ok ranged) range → Matches {A = Fields} (Err e) (with_length bytes ranged) → Matches {A = Fields} (Err e) (with_fields (Chunk start bytes) headers)
-  length_refused e ranged is says = says_first e (range >>= with_length bytes) with_type (rw is says)
+  pub length_refused : (e : OciDistributionError) (ranged : Fields) → Matches is_memory (Ok ranged) range → Matches {A = Fields} is_memory (Err e) (with_length bytes ranged) → Matches {A = Fields} is_memory (Err e) (with_fields (Chunk start bytes) headers)
+  length_refused e ranged is says = says_first is_memory e (range >>= with_length bytes) (with_type octet_stream) (rw is says)
 
-  pub type_said : (r : Result Fields OciDistributionError) (ranged sized : Fields) → Matches (Ok ranged) range → Matches (Ok sized) (with_length bytes ranged) → Matches r (with_type sized) → Matches r (with_fields (Chunk start bytes) headers)
-  type_said r ranged sized is sized_is says = says_next sized r (range >>= with_length bytes) with_type (rw is sized_is) says
+  pub type_said : (r : Result Fields OciDistributionError) (ranged sized : Fields) → Matches is_memory (Ok ranged) range → Matches is_memory (Ok sized) (with_length bytes ranged) → Matches is_memory r (with_type octet_stream sized) → Matches is_memory r (with_fields (Chunk start bytes) headers)
+  type_said r ranged sized is sized_is says = says_next is_memory (range >>= with_length bytes) sized (with_type octet_stream) r (rw is sized_is) says
+
+-- and of a whole blob
+pub whole_said : (bytes : List ℕ) (headers : Fields) (r : Result Fields OciDistributionError) (sized : Fields) → Matches is_memory (Ok sized) (with_length bytes headers) → Matches is_memory r (with_type octet_stream sized) → Matches is_memory r (with_fields (Whole bytes) headers)
+whole_said bytes headers r sized is says = says_next is_memory (with_length bytes headers) sized (with_type octet_stream) r is says

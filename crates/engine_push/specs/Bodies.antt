@@ -4,10 +4,11 @@ use Rattle.oci_transport.specs.Link.{Link}
 use Rattle.oci_transport.specs.declared.message.Answer.{Answer}
 use Rattle.oci_transport.specs.declared.message.Exchange.{Exchange}
 use Rattle.oci_protocol.specs.Runs.{Told}
+use Rattle.engine_push.specs.PieceStates.{part}
 
--- the bodies of the requests, one after another
-abbrev pub bodies : List Exchange → List ℕ
-bodies c = flat_map (λ (e : Exchange). e.request.body) c
+-- the bodies of the requests that have one, in order
+abbrev pub bodies : List Exchange → List (List ℕ)
+bodies c = flat_map (λ (e : Exchange). part e.request.body) c
 
 -- the last response has a body of more than `limit` bytes
 pub record LastLong (limit : ℕ) (c : List Exchange) : Type 0 where
@@ -19,10 +20,10 @@ pub record LastLong (limit : ℕ) (c : List Exchange) : Type 0 where
   pub long : limit < length answer.body
 
 -- the first list is a prefix of the second
-abbrev pub IsPrefix : List ℕ → List ℕ → Type 0
-IsPrefix first bytes = (rest : List ℕ) × (bytes ≡ first ++ rest)
+abbrev pub IsPrefix : {A : Type 0} → List A → List A → Type 0
+IsPrefix {A} first all = (rest : List A) × (all ≡ first ++ rest)
 
--- If exchanges are exposed, their requests contained these bytes, or a prefix of them if the call was refused.
-abbrev pub Sends : {A E : Type 0} → List ℕ → Link → Link → Result A E → Type 0
-Sends bytes old new (Ok a) = Told (λ c. bodies c ≡ bytes) old new
-Sends bytes old new (Err e) = Told (λ c. IsPrefix (bodies c) bytes) old new
+-- If exchanges are exposed, their requests had these bodies, or a prefix of them if the call was refused.
+abbrev pub Sends : {A E : Type 0} → List (List ℕ) → Link → Link → Result A E → Type 0
+Sends parts old new (Ok a) = Told (λ c. bodies c ≡ parts) old new
+Sends parts old new (Err e) = Told (λ c. IsPrefix (bodies c) parts) old new

@@ -4,7 +4,7 @@ use Rattle.std.specs.Prelude.{nat_eq, length, if◌then◌else◌}
 use Rattle.url.specs.Parts.{Parts}
 use Rattle.url.specs.Setters.{append_query_pairs}
 use Rattle.oci_digests.specs.Names.{digest_text}
-use Rattle.oci_digests.specs.declared.digester.Algorithm.TheVariants.{Sha256}
+use Rattle.oci_names.specs.declared.algorithm.Algorithm.TheVariants.{Sha256}
 use Rattle.oci_names.specs.Reference.{repository_of}
 use Rattle.oci_names.specs.declared.reference.Reference.{Reference}
 use Rattle.oci_protocol.specs.Proto.{Done, bind, ◌>>=◌}

@@ -4,5 +4,6 @@ pub mod Causes
 pub mod Contents
 pub mod Locations
 pub mod MemoryPieces
+pub mod PieceStates
 pub mod Sources
 pub mod Uploads

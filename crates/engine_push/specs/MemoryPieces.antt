@@ -1,12 +1,12 @@
 -- The state of pieces in memory.
 use Rattle.std.specs.Prelude.{ℕ, List, Some, drop}
 use Rattle.oci_transport.specs.Pieces.{joined}
-use Rattle.byte_streams.specs.Source.{SourceState}
+use Rattle.engine_push.specs.PieceStates.{PieceState}
 use Rattle.engine_push.specs.declared.memory_pieces.MemoryPieces.{MemoryPieces}
 
--- the pieces that are left
-abbrev pub source_state : MemoryPieces → SourceState
-source_state s = record { left = Some (joined (drop s.at s.pieces)); faults = s.faults }
+-- the pieces that are left, and their bytes
+abbrev pub source_state : MemoryPieces → PieceState
+source_state s = record { left = Some (joined (drop s.at s.pieces)); ahead = Some (drop s.at s.pieces); faults = s.faults }
 
 -- the number of calls so far, saturating at `u64::MAX`
 abbrev pub calls_of : MemoryPieces → ℕ

@@ -1,7 +1,9 @@
 // What a request of a push contains.
 ghost use Rattle.std.specs.Prelude.{◌≡◌, ◌+◌, ◌<◌, ◌^◌, length, IfOk};
-ghost use Rattle.engine_terms.specs.Error.{Matches};
-ghost use Rattle.engine_push.specs.Contents.{IsWithin, bytes_of, range_text, with_length, with_type, with_fields, with_content};
+ghost use Rattle.json_values.specs.Refusals.{Matches};
+ghost use Rattle.engine_terms.specs.Error.{is_memory};
+ghost use Rattle.engine_push.specs.Contents.{IsWithin, bytes_of, range_text, with_length, with_type};
+ghost use Rattle.engine_push.specs.Contents.{with_fields, with_content};
 
 use engine_requests::with_header;
 use engine_terms::OciDistributionError;
@@ -9,12 +11,17 @@ use json_values::{Blob, Text, write_decimal};
 use oci_transport::{Headers, Request};
 use std::alloc::{AllocError, Global};
 
-/// What a request of a push contains: no bytes, a whole blob, or a chunk of one, with the offset of its first byte.
+/// The media type of a blob's bytes.
+const OCTET_STREAM: &str = "application/octet-stream";
+
+/// What a request of a push contains: no bytes, a whole blob, a chunk of one with the offset of its first byte, or a
+/// document with its media type.
 #[derive(Drop)]
 pub enum Content {
     Nothing,
     Whole(Blob),
     Chunk { start: u64, bytes: Blob },
+    Document { media_type: Text, bytes: Blob },
 }
 
 fn range_text(alloc: Global, start: u64, bytes: &[u8]) -> Result<Text, AllocError>
@@ -33,17 +40,17 @@ fn with_length(
     headers: Headers,
     bytes: &[u8],
 ) -> Result<Headers, OciDistributionError>
-    ensures { Matches result (with_length bytes.now headers) }
+    ensures { Matches is_memory result (with_length bytes.now headers) }
 {
     let digits = write_decimal(alloc, bytes.len() as u64)?;
     let sized = with_header(headers, "content-length", digits.as_str())?;
     Ok(sized)
 }
 
-fn with_type(headers: Headers) -> Result<Headers, OciDistributionError>
-    ensures { Matches result (with_type headers) }
+fn with_type(headers: Headers, media_type: &str) -> Result<Headers, OciDistributionError>
+    ensures { Matches is_memory result (with_type media_type.now headers) }
 {
-    with_header(headers, "content-type", "application/octet-stream")
+    with_header(headers, "content-type", media_type)
 }
 
 fn with_fields(
@@ -52,7 +59,7 @@ fn with_fields(
     content: &Content,
 ) -> Result<Headers, OciDistributionError>
     requires { IsWithin content.now }
-    ensures { Matches result (with_fields content.now headers) }
+    ensures { Matches is_memory result (with_fields content.now headers) }
 {
     match content {
         Content::Nothing => {
@@ -61,14 +68,18 @@ fn with_fields(
         }
         Content::Whole(bytes) => {
             let sized = with_length(alloc, headers, bytes.as_slice())?;
-            let typed = with_type(sized)?;
+            let typed = with_type(sized, OCTET_STREAM)?;
             Ok(typed)
         }
         Content::Chunk { start, bytes } => {
             let range = range_text(alloc, *start, bytes.as_slice())?;
             let ranged = with_header(headers, "content-range", range.as_str())?;
             let sized = with_length(alloc, ranged, bytes.as_slice())?;
-            let typed = with_type(sized)?;
+            let typed = with_type(sized, OCTET_STREAM)?;
+            Ok(typed)
+        }
+        Content::Document { media_type, .. } => {
+            let typed = with_type(headers, media_type.as_str())?;
             Ok(typed)
         }
     }
@@ -81,6 +92,7 @@ fn into_bytes(alloc: Global, content: Content) -> Blob
         Content::Nothing => Blob::empty(alloc),
         Content::Whole(bytes) => bytes,
         Content::Chunk { bytes, .. } => bytes,
+        Content::Document { bytes, .. } => bytes,
     }
 }
 
@@ -92,7 +104,7 @@ pub(crate) fn with_content(
     content: Content,
 ) -> Result<Request, OciDistributionError>
     requires { IsWithin content }
-    ensures { Matches result (with_content content request) }
+    ensures { Matches is_memory result (with_content content request) }
 {
     let Request {
         method,

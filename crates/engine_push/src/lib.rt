@@ -1,4 +1,5 @@
-//! Pushes of blobs: uploads in chunks or whole, of bytes in memory or from a source that gives them piece by piece.
+//! Pushes of blobs: uploads in chunks or whole, of bytes in memory or from a source that gives them piece by piece; and
+//! the request of any push.
 #![tactic(auto)]
 
 mod bytes;
@@ -17,3 +18,4 @@ pub use memory_pieces::MemoryPieces;
 pub use mounting::mount_blob;
 pub use piece_source::PieceSource;
 pub use stream::{PushBlobStreamChunkedResponse, push_blob_stream, push_blob_stream_chunked};
+pub use uploads::sent;

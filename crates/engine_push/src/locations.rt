@@ -1,6 +1,7 @@
 // Where an upload continues, as a response states.
 ghost use Rattle.std.specs.Prelude.{◌≡◌, IfOk, option_copied};
-ghost use Rattle.engine_terms.specs.Error.{Matches};
+ghost use Rattle.json_values.specs.Refusals.{Matches};
+ghost use Rattle.engine_terms.specs.Error.{is_memory};
 ghost use Rattle.engine_push.specs.Locations.{resolved, location_of, located};
 
 use engine_requests::registry_text;
@@ -25,7 +26,8 @@ fn location_of(
     call: &Call,
     value: Option<&[u8]>,
 ) -> Result<Text, OciDistributionError>
-    ensures { Matches result (location_of call.now.settings.now call.now.image.now (option_copied value.entry)) }
+    ensures { Matches is_memory result
+        (location_of call.now.settings.now call.now.image.now (option_copied value.entry)) }
 {
     let Some(value) = value else {
         return Err(OciDistributionError::RegistryNoLocationError);
@@ -47,7 +49,7 @@ pub(crate) fn located(
     url: Text,
     head: &AnswerHead,
 ) -> Result<Text, OciDistributionError>
-    ensures { Matches result (located call.now.settings.now call.now.image.now expected url head.now) }
+    ensures { Matches is_memory result (located call.now.settings.now call.now.image.now expected url head.now) }
 {
     if head.status != expected {
         return Err(OciDistributionError::SpecViolationError(SpecViolation::Status {

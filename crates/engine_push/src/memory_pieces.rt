@@ -3,6 +3,7 @@ ghost use Rattle.std.specs.Prelude.{◌≡◌, ◌≤◌, length, [], Some, Cont
 ghost use Rattle.std.specs.Io.KnownBytes.{Keeps, IsAtEnd};
 ghost use Rattle.json_values.specs.Counts.{Increased, Unchanged, incremented};
 ghost use Rattle.oci_transport.specs.Pieces.{NoneEmpty, joined};
+ghost use Rattle.engine_push.specs.PieceStates.{Takes, TakesPieces, NoneAhead, part};
 
 use crate::piece_source::PieceSource;
 use json_values::{Blob, Copied, List};
@@ -28,6 +29,7 @@ impl MemoryPieces {
     pub fn new(_alloc: Global, pieces: List<Blob>, failing: List<u64>) -> MemoryPieces
         requires { NoneEmpty pieces }
         ensures left { (source_state result).left ≡ Some (joined pieces) }
+        ensures ahead { (source_state result).ahead ≡ Some pieces }
         ensures faults { (source_state result).faults ≡ 0 }
         ensures calls { calls_of result ≡ 0 }
         ensures failing { failing_of result ≡ failing }
@@ -43,7 +45,6 @@ impl MemoryPieces {
 }
 
 impl PieceSource for MemoryPieces {
-    ghost use Rattle.byte_streams.specs.Source.{Takes};
     ghost use Rattle.engine_push.specs.MemoryPieces.{source_state, calls_of, failing_of};
 
     ghost state = { source_state };
@@ -52,6 +53,9 @@ impl PieceSource for MemoryPieces {
         ensures count { (source_state self.old).faults ≤ (source_state self.new).faults }
         ensures prefix { IfOk result (λ piece. Takes piece (source_state self.old) (source_state self.new)) }
         ensures end { IfOk result (λ piece. piece ≡ [] → IsAtEnd (source_state self.new).left) }
+        ensures next { IfOk result (λ piece. TakesPieces (part piece) (source_state self.old) (source_state self.new)) }
+        ensures last { IfOk result (λ piece. piece ≡ [] → NoneAhead (source_state self.new)) }
+        ensures keeps { OnErr result (TakesPieces [] (source_state self.old) (source_state self.new)) }
         ensures fault { IsErrOf result LinkError.Failed
             → Increased (source_state self.old).faults (source_state self.new).faults }
         ensures no_fault { OnOk result (Unchanged (source_state self.old).faults (source_state self.new).faults) }

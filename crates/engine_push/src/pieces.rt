@@ -1,15 +1,15 @@
 // Takes the pieces of a source, in its order.
-ghost use Rattle.std.specs.Prelude.{◌≡◌, ◌≤◌, ◌++◌, [], ℕ, List, IfOk, IfErr, is_some};
+ghost use Rattle.std.specs.Prelude.{◌≡◌, ◌≤◌, ◌++◌, [], ℕ, List, IfOk, IfErr, OnErr, is_some};
 ghost use Rattle.std.specs.Io.KnownBytes.{IsAtEnd};
 ghost use Rattle.json_values.specs.Counts.{Increased};
-ghost use Rattle.byte_streams.specs.Source.{Takes};
+ghost use Rattle.engine_push.specs.PieceStates.{Takes, TakesPieces, NoneAhead, part};
 ghost use Rattle.oci_auth.specs.declared.auth_state.AuthState.{AuthState};
 ghost use Rattle.oci_transport.specs.Link.{Link};
 ghost use Rattle.oci_protocol.specs.Runs.{Meets};
 ghost use Rattle.engine_terms.specs.Contexts.{context_of};
 ghost use Rattle.engine_terms.specs.Error.{is_memory};
 ghost use Rattle.engine_push.specs.Uploads.{next_piece, all_sent, all_read};
-ghost use Rattle.engine_push.specs.Sources.{Pushes, AllConsumed, TookAll, NoPiece, NotHeld, NotSent};
+ghost use Rattle.engine_push.specs.Sources.{Pushes, Cuts, AllConsumed, AllGathered, TookAll, NoPiece, NotHeld, NotSent};
 ghost use Rattle.engine_push.specs.Sources.{Hashed, IsUpload, sent_in};
 
 use crate::piece_source::PieceSource;
@@ -34,6 +34,9 @@ fn next_piece<P: PieceSource>(alloc: Global, pieces: &mut P) -> Result<Blob, Oci
     ensures run { (link : Link) (k : AuthState) → Meets is_memory next_piece link link k k result }
     ensures prefix { IfOk result (λ piece. Takes piece (P.state pieces.old) (P.state pieces.new)) }
     ensures end { IfOk result (λ piece. piece ≡ [] → IsAtEnd (P.state pieces.new).left) }
+    ensures next { IfOk result (λ piece. TakesPieces (part piece) (P.state pieces.old) (P.state pieces.new)) }
+    ensures last { IfOk result (λ piece. piece ≡ [] → NoneAhead (P.state pieces.new)) }
+    ensures keeps { OnErr result (TakesPieces [] (P.state pieces.old) (P.state pieces.new)) }
     ensures refused { IfErr result (NoPiece (P.state pieces.old) (P.state pieces.new)) }
     ensures count { (P.state pieces.old).faults ≤ (P.state pieces.new).faults }
 {
@@ -70,6 +73,8 @@ pub(crate) fn pieces_sent<T: Transport, P: PieceSource>(
         × TookAll bytes (P.state pieces.old) (P.state pieces.new)) }
     ensures pushes { Pushes (P.state pieces.old) (P.state pieces.new)
         (T.state transport.old) (T.state transport.new) result }
+    ensures cuts { Cuts (P.state pieces.old) (P.state pieces.new)
+        (T.state transport.old) (T.state transport.new) result }
     ensures refused { IfErr result (NotSent call.now.settings.now.max_body_bytes
         (P.state pieces.old) (P.state pieces.new) (T.state transport.old) (T.state transport.new)) }
 {
@@ -104,6 +109,7 @@ pub(crate) fn pieces_read<P: PieceSource>(
 ) -> Result<Blob, OciDistributionError>
     ensures run { (link : Link) (k : AuthState) → Meets is_memory (all_read limit) link link k k result }
     ensures gives { AllConsumed (P.state pieces.old) (P.state pieces.new) result }
+    ensures gathers { AllGathered (P.state pieces.old) (P.state pieces.new) result }
     ensures refused { IfErr result (NotHeld limit (P.state pieces.old) (P.state pieces.new)) }
 {
     let mut held = Blob::empty(alloc);

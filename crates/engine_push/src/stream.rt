@@ -1,11 +1,11 @@
 // Pushes bytes from a source.
-ghost use Rattle.std.specs.Prelude.{◌≡◌, None, IfErr};
+ghost use Rattle.std.specs.Prelude.{◌≡◌, true, None, IfErr};
 ghost use Rattle.std.specs.Option.{option_copied};
 ghost use Rattle.oci_protocol.specs.Runs.{Meets};
 ghost use Rattle.engine_terms.specs.Contexts.{context_of};
 ghost use Rattle.engine_terms.specs.Error.{is_memory};
 ghost use Rattle.engine_push.specs.Calls.{stream_whole, stream_chunked, push_blob_stream, push_blob_stream_chunked};
-ghost use Rattle.engine_push.specs.Sources.{Pushes, NotSent, SourceCause};
+ghost use Rattle.engine_push.specs.Sources.{Pushes, Cuts, CutBy, NotSent, SourceCause};
 
 use crate::content::Content;
 use crate::piece_source::PieceSource;
@@ -54,6 +54,8 @@ fn stream_whole<T: Transport, P: PieceSource>(
         (T.state transport.old) (T.state transport.new) memory.old memory.new result }
     ensures pushes { Pushes (P.state pieces.old) (P.state pieces.new)
         (T.state transport.old) (T.state transport.new) result }
+    ensures cuts { CutBy true (P.state pieces.old) (P.state pieces.new)
+        (T.state transport.old) (T.state transport.new) result }
     ensures source { IfErr result (SourceCause call.now.settings.now.max_body_bytes size
         (P.state pieces.old) (P.state pieces.new) (T.state transport.old) (T.state transport.new)) }
 {
@@ -83,6 +85,8 @@ fn stream_chunked<T: Transport, P: PieceSource>(
         (T.state transport.old) (T.state transport.new) memory.old memory.new result }
     ensures pushes { Pushes (P.state pieces.old) (P.state pieces.new)
         (T.state transport.old) (T.state transport.new) result }
+    ensures cuts { Cuts (P.state pieces.old) (P.state pieces.new)
+        (T.state transport.old) (T.state transport.new) result }
     ensures source { IfErr result (NotSent call.now.settings.now.max_body_bytes
         (P.state pieces.old) (P.state pieces.new) (T.state transport.old) (T.state transport.new)) }
 {
@@ -111,6 +115,8 @@ pub fn push_blob_stream<T: Transport, P: PieceSource>(
         (T.state transport.old) (T.state transport.new) memory.old memory.new result }
     ensures pushes { Pushes (P.state pieces.old) (P.state pieces.new)
         (T.state transport.old) (T.state transport.new) result }
+    ensures cuts { CutBy call.now.settings.now.use_monolithic_push (P.state pieces.old) (P.state pieces.new)
+        (T.state transport.old) (T.state transport.new) result }
     ensures source { IfErr result (SourceCause call.now.settings.now.max_body_bytes size
         (P.state pieces.old) (P.state pieces.new) (T.state transport.old) (T.state transport.new)) }
 {
@@ -133,6 +139,8 @@ pub fn push_blob_stream_chunked<T: Transport, P: PieceSource>(
     ensures run { Meets is_memory (push_blob_stream_chunked (context_of call.now) call.now.image.now)
         (T.state transport.old) (T.state transport.new) memory.old memory.new result }
     ensures pushes { Pushes (P.state pieces.old) (P.state pieces.new)
+        (T.state transport.old) (T.state transport.new) result }
+    ensures cuts { Cuts (P.state pieces.old) (P.state pieces.new)
         (T.state transport.old) (T.state transport.new) result }
     ensures source { IfErr result (SourceCause call.now.settings.now.max_body_bytes None
         (P.state pieces.old) (P.state pieces.new) (T.state transport.old) (T.state transport.new)) }

@@ -6,6 +6,7 @@ ghost use Rattle.engine_terms.specs.Contexts.{context_of};
 ghost use Rattle.engine_terms.specs.Error.{is_memory};
 ghost use Rattle.engine_push.specs.Contents.{IsWithin, bytes_of};
 ghost use Rattle.engine_push.specs.Bodies.{Sends};
+ghost use Rattle.engine_push.specs.PieceStates.{part};
 ghost use Rattle.engine_push.specs.Uploads.{location_after, sent, upload_begun, upload_ended};
 ghost use Rattle.engine_push.specs.Uploads.{chunk_sent, chunks, chunks_sent};
 
@@ -59,9 +60,12 @@ fn location_after<T: Transport>(
     }
 }
 
-/// Sends a request of an upload, with its token if it goes to the registry, and returns the location in the response.
+/// Sends a request of a push, with its token if it goes to the registry, and returns the location in the response, which
+/// must have the expected status. `ServerError` if the response has a status other than 2xx, `SpecViolationError` if it
+/// has another 2xx status, `RegistryNoLocationError` if it names no location, `HeaderValueError` if the location is not
+/// text.
 #[tactic(none)]
-pub(crate) fn sent<T: Transport>(
+pub fn sent<T: Transport>(
     alloc: Global,
     transport: &mut T,
     memory: &mut AuthState,
@@ -74,7 +78,7 @@ pub(crate) fn sent<T: Transport>(
     ensures run { Meets is_memory
         (sent (context_of call.now) call.now.image.now target.now.method target.now.url.now content expected)
         (T.state transport.old) (T.state transport.new) memory.old memory.new result }
-    ensures sends { Sends (bytes_of content) (T.state transport.old) (T.state transport.new) result }
+    ensures sends { Sends (part (bytes_of content)) (T.state transport.old) (T.state transport.new) result }
 {
     let push = RegistryOperation::Push;
     let token = authorized(alloc, transport, memory, call, push, target.url)?;
@@ -133,7 +137,7 @@ fn chunk_sent<T: Transport>(
     requires { start + length bytes < 2 ^ 64 }
     ensures run { Meets is_memory (chunk_sent (context_of call.now) call.now.image.now location start bytes)
         (T.state transport.old) (T.state transport.new) memory.old memory.new result }
-    ensures sends { Sends bytes (T.state transport.old) (T.state transport.new) result }
+    ensures sends { Sends (part bytes) (T.state transport.old) (T.state transport.new) result }
 {
     let url = read_url(alloc, location)?;
     let target = Target {
@@ -159,7 +163,7 @@ pub(crate) fn upload_ended<T: Transport>(
     requires { IsWithin content }
     ensures run { Meets is_memory (upload_ended (context_of call.now) call.now.image.now digest.now location content)
         (T.state transport.old) (T.state transport.new) memory.old memory.new result }
-    ensures sends { Sends (bytes_of content) (T.state transport.old) (T.state transport.new) result }
+    ensures sends { Sends (part (bytes_of content)) (T.state transport.old) (T.state transport.new) result }
 {
     let read = read_url(alloc, location)?;
     let url = with_pair(read, "digest", digest)?;
@@ -186,7 +190,7 @@ pub(crate) fn chunks_sent<T: Transport>(
     ensures run { Meets is_memory
         (chunks_sent (context_of call.now) call.now.image.now location start (chunks bytes.now))
         (T.state transport.old) (T.state transport.new) memory.old memory.new result }
-    ensures sends { Sends bytes.now (T.state transport.old) (T.state transport.new) result }
+    ensures sends { Sends (chunks bytes.now) (T.state transport.old) (T.state transport.new) result }
 {
     let mut next = location;
     let mut place = start;

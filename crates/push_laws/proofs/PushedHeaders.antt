@@ -5,12 +5,12 @@ use Rattle.std.specs.FinMap.{get-insert}
 use Rattle.std.specs.Cmp.Lexicographic.{nat_list_cmp_total}
 use Rattle.oci_transport.specs.Headers.{Fields, values_of, added}
 use Rattle.oci_transport.specs.declared.message.Request.{Request}
-use Rattle.engine_terms.specs.Error.{◌>>=◌ as ◌into◌}
+use Rattle.json_values.specs.Refusals.{◌>>=◌ as ◌into◌}
 use Rattle.engine_requests.specs.Requests.{with_header}
 use Rattle.engine_laws.proofs.PreparedRequests.{with_ok, into_ok}
-use Rattle.engine_push.specs.Contents.{bytes_of, range_text, with_length, with_type, with_fields, with_content}
+use Rattle.engine_push.specs.Contents.{bytes_of, range_text, octet_stream, with_length, with_type, with_fields, with_content}
 use Rattle.engine_push.specs.declared.content.Content.{Content}
-use Rattle.engine_push.specs.declared.content.Content.TheVariants.{Nothing, Whole, Chunk}
+use Rattle.engine_push.specs.declared.content.Content.TheVariants.{Nothing, Whole, Chunk, Document}
 
 abbrev shown : Fields → List (List ℕ)
 shown headers = values_of (codes "authorization") headers
@@ -27,21 +27,22 @@ range_keeps m value = ap (λ (o : Option (List (List ℕ))). unwrap_or o []) (ge
 length_shown : (bytes : List ℕ) (m made : Fields) → with_length bytes m ≡ Ok made → shown made ≡ shown m
 length_shown bytes m made is = ap shown (with_ok m (codes "content-length") (decimal (length bytes)) made is) ∙ length_keeps m (decimal (length bytes))
 
-type_shown : (m made : Fields) → with_type m ≡ Ok made → shown made ≡ shown m
-type_shown m made is = ap shown (with_ok m (codes "content-type") (codes "application/octet-stream") made is) ∙ type_keeps m (codes "application/octet-stream")
+type_shown : (kind : List ℕ) (m made : Fields) → with_type kind m ≡ Ok made → shown made ≡ shown m
+type_shown kind m made is = ap shown (with_ok m (codes "content-type") kind made is) ∙ type_keeps m kind
 
-sized_shown : (bytes : List ℕ) (m made : Fields) → (with_length bytes m into with_type) ≡ Ok made → shown made ≡ shown m
-sized_shown bytes m made is = let at = into_ok (with_length bytes m) with_type made is in type_shown at.0 made at.2 ∙ length_shown bytes m at.0 at.1
+sized_shown : (bytes : List ℕ) (m made : Fields) → (with_length bytes m into with_type octet_stream) ≡ Ok made → shown made ≡ shown m
+sized_shown bytes m made is = let at = into_ok (with_length bytes m) (with_type octet_stream) made is in type_shown octet_stream at.0 made at.2 ∙ length_shown bytes m at.0 at.1
 
 fields_shown : (content : Content) (m made : Fields) → with_fields content m ≡ Ok made → shown made ≡ shown m
 fields_shown Nothing m made is = length_shown [] m made is
 fields_shown (Whole bytes) m made is = sized_shown bytes m made is
 fields_shown (Chunk start bytes) m made is = ranged is where
-  ranged : ((with_header m (codes "content-range") (range_text start bytes) into with_length bytes) into with_type) ≡ Ok made → shown made ≡ shown m
+  ranged : ((with_header m (codes "content-range") (range_text start bytes) into with_length bytes) into with_type octet_stream) ≡ Ok made → shown made ≡ shown m
   ranged is =
-      let typed = into_ok (with_header m (codes "content-range") (range_text start bytes) into with_length bytes) with_type made is in
+      let typed = into_ok (with_header m (codes "content-range") (range_text start bytes) into with_length bytes) (with_type octet_stream) made is in
       let sized = into_ok (with_header m (codes "content-range") (range_text start bytes)) (with_length bytes) typed.0 typed.1 in
-      type_shown typed.0 made typed.2 ∙ length_shown bytes sized.0 typed.0 sized.2 ∙ ap shown (with_ok m (codes "content-range") (range_text start bytes) sized.0 sized.1) ∙ range_keeps m (range_text start bytes)
+      type_shown octet_stream typed.0 made typed.2 ∙ length_shown bytes sized.0 typed.0 sized.2 ∙ ap shown (with_ok m (codes "content-range") (range_text start bytes) sized.0 sized.1) ∙ range_keeps m (range_text start bytes)
+fields_shown (Document kind bytes) m made is = type_shown kind m made is
 
 -- a request with a content, and the one before adding it
 pub record WithContent (content : Content) (bare request : Request) : Type 0 where

@@ -1,5 +1,5 @@
 use Rattle.std.proofs.Common.{ap, arith, length}
-use Rattle.engine_push.proofs.PieceTree.{holding_start, hold_refused, hold_longer, hold_ended, hold_wanting, held_more, nil_of, all_taken, gives_refused, err_is, no_piece_held, took_more}
+use Rattle.engine_push.proofs.PieceTree.{holding_start, hold_refused, hold_longer, hold_ended, hold_wanting, held_more, nil_of, all_taken, gives_refused, err_is, no_piece_held, took_more, gathered, gathers_refused}
 use Rattle.engine_push.proofs.pieces.pieces_read.Goals as goal
 
 pub loop-held-init : goal.loop-held-init
@@ -33,7 +33,16 @@ pub returns-in_err-held-clause-refused : goal.returns-in_err-held-clause-refused
 returns-in_err-held-clause-refused g c = err_is _ _ _ c.from_residual-in_err-held.ensures.1 tt
 
 pub loop-held-preserved : goal.loop-held-preserved
-loop-held-preserved g c = rw c.in_ok-held.ensures (held_more _ _ c.loop-held.invariant _ (omega (arith, c.if-more-eq0.false, ap length c.as_slice.ensures)) (omega (arith, c.if-more-limit.false, ap length c.as_slice.ensures, ap length c.as_slice-in-loop-held.ensures)) c.in_ok-piece.ensures.prefix c.in_ok-piece.ensures.count)
+loop-held-preserved g c = rw c.in_ok-held.ensures (held_more _ _ c.loop-held.invariant _ (omega (arith, c.if-more-eq0.false, ap length c.as_slice.ensures)) (omega (arith, c.if-more-limit.false, ap length c.as_slice.ensures, ap length c.as_slice-in-loop-held.ensures)) c.in_ok-piece.ensures.prefix c.in_ok-piece.ensures.next c.in_ok-piece.ensures.count)
 
 pub returns-then-more-limit-clause-refused : goal.returns-then-more-limit-clause-refused
-returns-then-more-limit-clause-refused g c = took_more _ (g.P.PieceSource.state c.args.pieces.now) (g.P.PieceSource.state c.loop-held.pieces) (g.P.PieceSource.state c.next_piece.new.pieces) c.loop-held.held c.in_ok-piece.piece c.loop-held.invariant.taken c.in_ok-piece.ensures.prefix (omega (arith, c.if-more-limit.true, ap length c.as_slice.ensures, ap length c.as_slice-in-loop-held.ensures))
+returns-then-more-limit-clause-refused g c = took_more _ (g.P.PieceSource.state c.args.pieces.now) (g.P.PieceSource.state c.loop-held.pieces) (g.P.PieceSource.state c.next_piece.new.pieces) c.loop-held.invariant.pieces c.loop-held.held c.in_ok-piece.piece c.loop-held.invariant.held_are c.loop-held.invariant.taken c.loop-held.invariant.ahead c.in_ok-piece.ensures.prefix c.in_ok-piece.ensures.next c.loop-held.invariant.small (omega (arith, c.if-more-limit.true, ap length c.as_slice.ensures, ap length c.as_slice-in-loop-held.ensures))
+
+pub returns-in_err-piece-clause-gathers : goal.returns-in_err-piece-clause-gathers
+returns-in_err-piece-clause-gathers g c = gathers_refused (g.P.PieceSource.state c.args.pieces.now) (g.P.PieceSource.state c.next_piece.new.pieces) _ _ c.from_residual.ensures.1
+
+pub returns-then-more-eq0-clause-gathers : goal.returns-then-more-eq0-clause-gathers
+returns-then-more-eq0-clause-gathers g c = gathered _ _ c.loop-held.invariant c.in_ok-piece.piece (rw c.as_slice.ensures at c.if-more-eq0.true) c.in_ok-piece.ensures.next c.in_ok-piece.ensures.last
+
+pub returns-in_err-held-clause-gathers : goal.returns-in_err-held-clause-gathers
+returns-in_err-held-clause-gathers g c = gathers_refused (g.P.PieceSource.state c.args.pieces.now) (g.P.PieceSource.state c.next_piece.new.pieces) _ _ c.from_residual-in_err-held.ensures.1

@@ -1,4 +1,4 @@
-use Rattle.engine_push.proofs.StreamTree.{if_not_sent}
+use Rattle.engine_push.proofs.StreamTree.{if_not_sent, cut_by_one, cut_in_chunks}
 use Rattle.engine_push.proofs.CallTree.{stream_by_one, stream_in_chunks}
 use Rattle.engine_push.proofs.stream.push_blob_stream.Goals as goal
 
@@ -19,3 +19,9 @@ returns-clause-pushes g c = c.stream_chunked.ensures.pushes
 
 pub returns-clause-source : goal.returns-clause-source
 returns-clause-source g c = if_not_sent _ _ (g.P.PieceSource.state c.args.pieces.now) (g.P.PieceSource.state c.stream_chunked.new.pieces) (g.T.Transport.state c.args.transport.now) (g.T.Transport.state c.stream_chunked.new.transport) _ c.stream_chunked.ensures.source
+
+pub returns-then-call-clause-cuts : goal.returns-then-call-clause-cuts
+returns-then-call-clause-cuts g c = cut_by_one _ (g.P.PieceSource.state c.args.pieces.now) (g.P.PieceSource.state c.stream_whole.new.pieces) (g.T.Transport.state c.args.transport.now) (g.T.Transport.state c.stream_whole.new.transport) _ c.if-call.true c.stream_whole.ensures.cuts
+
+pub returns-clause-cuts : goal.returns-clause-cuts
+returns-clause-cuts g c = cut_in_chunks _ (g.P.PieceSource.state c.args.pieces.now) (g.P.PieceSource.state c.stream_chunked.new.pieces) (g.T.Transport.state c.args.transport.now) (g.T.Transport.state c.stream_chunked.new.transport) _ c.if-call.false c.stream_chunked.ensures.cuts

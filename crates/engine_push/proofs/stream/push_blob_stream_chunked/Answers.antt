@@ -2,9 +2,9 @@ use Rattle.std.proofs.Common.{refl, Some}
 use Rattle.engine_rows.proofs.Exits.{refused, wanting, and_then}
 use Rattle.engine_push.specs.Calls.{push_blob_stream_chunked}
 use Rattle.engine_push.proofs.Endings.{begun_told, ended_told}
-use Rattle.engine_push.proofs.PieceTree.{none_of_left, pushes_refused, err_is, step_source, step_behind, sent_source, sent_behind}
-use Rattle.engine_push.proofs.StreamTree.{ended_pushes, ended_refused, sent_refused, sent_met, sent_then, none_sent, some_sent, response_met, none_missing, took_none}
-use Rattle.oci_digests.specs.declared.digester.Algorithm.TheVariants.{Sha256}
+use Rattle.engine_push.proofs.PieceTree.{none_of_left, pushes_refused, cuts_refused, err_is, step_source, step_behind, sent_source, sent_behind}
+use Rattle.engine_push.proofs.StreamTree.{ended_pushes, ended_refused, none_cut, begun_cut, all_cut, ended_cut, whole_cut, sent_refused, sent_met, sent_then, none_sent, some_sent, response_met, none_missing, took_none}
+use Rattle.oci_names.specs.declared.algorithm.Algorithm.TheVariants.{Sha256}
 use Rattle.engine_push.proofs.CallTree.{none_given, some_given}
 use Rattle.engine_push.proofs.stream.push_blob_stream_chunked.Goals as goal
 
@@ -82,3 +82,21 @@ returns-clause-source g c = tt
 
 pub same-blob_digest : goal.same-blob_digest
 same-blob_digest g c = refl
+
+pub returns-in_err-location-clause-cuts : goal.returns-in_err-location-clause-cuts
+returns-in_err-location-clause-cuts g c = cuts_refused (g.P.PieceSource.state c.args.pieces.now) (g.P.PieceSource.state c.args.pieces.now) _ _ c.from_residual.ensures.1 (none_cut (g.P.PieceSource.state c.args.pieces.now) c.in_err-location.ensures.sends)
+
+pub returns-in_err-sent-clause-cuts : goal.returns-in_err-sent-clause-cuts
+returns-in_err-sent-clause-cuts g c = cuts_refused (g.P.PieceSource.state c.args.pieces.now) (g.P.PieceSource.state c.pieces_sent.new.pieces) _ _ c.from_residual-in_err-sent.ensures.1 (begun_cut (g.P.PieceSource.state c.args.pieces.now) (g.P.PieceSource.state c.pieces_sent.new.pieces) c.in_ok-location.ensures.sends c.in_err-sent.ensures.cuts)
+
+pub returns-then-size-eq0-clause-cuts : goal.returns-then-size-eq0-clause-cuts
+returns-then-size-eq0-clause-cuts g c = all_cut (g.P.PieceSource.state c.args.pieces.now) (g.P.PieceSource.state c.pieces_sent.new.pieces) c.in_ok-location.ensures.sends c.in_ok-sent.ensures.cuts
+
+pub returns-in_err-blob_digest-clause-cuts : goal.returns-in_err-blob_digest-clause-cuts
+returns-in_err-blob_digest-clause-cuts g c = cuts_refused (g.P.PieceSource.state c.args.pieces.now) (g.P.PieceSource.state c.pieces_sent.new.pieces) _ _ c.from_residual-in_err-blob_digest.ensures.1 (all_cut (g.P.PieceSource.state c.args.pieces.now) (g.P.PieceSource.state c.pieces_sent.new.pieces) c.in_ok-location.ensures.sends c.in_ok-sent.ensures.cuts)
+
+pub returns-in_err-blob_url-clause-cuts : goal.returns-in_err-blob_url-clause-cuts
+returns-in_err-blob_url-clause-cuts g c = cuts_refused (g.P.PieceSource.state c.args.pieces.now) (g.P.PieceSource.state c.pieces_sent.new.pieces) _ _ c.from_residual-in_err-blob_url.ensures.1 (ended_cut (g.P.PieceSource.state c.args.pieces.now) (g.P.PieceSource.state c.pieces_sent.new.pieces) c.in_ok-location.ensures.sends c.in_ok-sent.ensures.cuts c.in_err-blob_url.ensures.sends)
+
+pub returns-clause-cuts : goal.returns-clause-cuts
+returns-clause-cuts g c = whole_cut (g.P.PieceSource.state c.args.pieces.now) (g.P.PieceSource.state c.pieces_sent.new.pieces) c.in_ok-location.ensures.sends c.in_ok-sent.ensures.cuts c.in_ok-blob_url.ensures.sends

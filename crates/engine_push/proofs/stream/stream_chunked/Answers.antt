@@ -1,8 +1,8 @@
 use Rattle.engine_rows.proofs.Exits.{and_then, passed_on}
 use Rattle.engine_push.specs.Calls.{stream_chunked}
 use Rattle.engine_push.proofs.Endings.{begun_told, ended_told}
-use Rattle.engine_push.proofs.PieceTree.{none_of_left, pushes_refused, err_is, step_sent, step_behind, sent_behind}
-use Rattle.engine_push.proofs.StreamTree.{ended_pushes, ended_refused, sent_refused, sent_met, sent_then, some_sent}
+use Rattle.engine_push.proofs.PieceTree.{none_of_left, pushes_refused, cuts_refused, err_is, step_sent, step_behind, sent_behind}
+use Rattle.engine_push.proofs.StreamTree.{ended_pushes, ended_refused, none_cut, begun_cut, ended_cut, whole_cut, sent_refused, sent_met, sent_then, some_sent}
 use Rattle.engine_push.proofs.stream.stream_chunked.Goals as goal
 
 pub returns-in_err-location-clause-run : goal.returns-in_err-location-clause-run
@@ -44,3 +44,15 @@ returns-clause-pushes g c = some_sent (g.P.PieceSource.state c.args.pieces.now) 
 
 pub returns-clause-source : goal.returns-clause-source
 returns-clause-source g c = tt
+
+pub returns-in_err-location-clause-cuts : goal.returns-in_err-location-clause-cuts
+returns-in_err-location-clause-cuts g c = cuts_refused (g.P.PieceSource.state c.args.pieces.now) (g.P.PieceSource.state c.args.pieces.now) _ _ c.from_residual.ensures.1 (none_cut (g.P.PieceSource.state c.args.pieces.now) c.in_err-location.ensures.sends)
+
+pub returns-in_err-sent-clause-cuts : goal.returns-in_err-sent-clause-cuts
+returns-in_err-sent-clause-cuts g c = cuts_refused (g.P.PieceSource.state c.args.pieces.now) (g.P.PieceSource.state c.pieces_sent.new.pieces) _ _ c.from_residual-in_err-sent.ensures.1 (begun_cut (g.P.PieceSource.state c.args.pieces.now) (g.P.PieceSource.state c.pieces_sent.new.pieces) c.in_ok-location.ensures.sends c.in_err-sent.ensures.cuts)
+
+pub returns-in_err-url-clause-cuts : goal.returns-in_err-url-clause-cuts
+returns-in_err-url-clause-cuts g c = cuts_refused (g.P.PieceSource.state c.args.pieces.now) (g.P.PieceSource.state c.pieces_sent.new.pieces) _ _ c.from_residual-in_err-url.ensures.1 (ended_cut (g.P.PieceSource.state c.args.pieces.now) (g.P.PieceSource.state c.pieces_sent.new.pieces) c.in_ok-location.ensures.sends c.in_ok-sent.ensures.cuts c.in_err-url.ensures.sends)
+
+pub returns-clause-cuts : goal.returns-clause-cuts
+returns-clause-cuts g c = whole_cut (g.P.PieceSource.state c.args.pieces.now) (g.P.PieceSource.state c.pieces_sent.new.pieces) c.in_ok-location.ensures.sends c.in_ok-sent.ensures.cuts c.in_ok-url.ensures.sends

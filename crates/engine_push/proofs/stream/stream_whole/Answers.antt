@@ -4,7 +4,7 @@ use Rattle.engine_push.specs.Calls.{stream_whole}
 use Rattle.engine_push.proofs.Carried.{carries_none, carries_front}
 use Rattle.engine_push.proofs.Endings.{begun_told, ended_told}
 use Rattle.engine_push.proofs.PieceTree.{none_of_left, pushes_refused, err_is, step_source, step_behind, held_source}
-use Rattle.engine_push.proofs.StreamTree.{size_unknown, begun_pushes, held_pushes}
+use Rattle.engine_push.proofs.StreamTree.{size_unknown, begun_pushes, held_pushes, none_joined, joined_refused, begun_joined, ended_joined}
 use Rattle.engine_push.proofs.CallTree.{size_refused, size_met}
 use Rattle.engine_push.proofs.stream.stream_whole.Goals as goal
 
@@ -73,3 +73,21 @@ returns-clause-pushes g c = begun_pushes (g.P.PieceSource.state c.args.pieces.no
 
 pub returns-clause-source : goal.returns-clause-source
 returns-clause-source g c = tt
+
+pub returns-in_default-clause-cuts : goal.returns-in_default-clause-cuts
+returns-in_default-clause-cuts g c = none_joined (g.P.PieceSource.state c.args.pieces.now) (g.P.PieceSource.state c.args.pieces.now) (carries_front (carries_none _))
+
+pub returns-in_err-location-clause-cuts : goal.returns-in_err-location-clause-cuts
+returns-in_err-location-clause-cuts g c = joined_refused (g.P.PieceSource.state c.args.pieces.now) (g.P.PieceSource.state c.args.pieces.now) _ _ c.from_residual.ensures.1 (none_joined (g.P.PieceSource.state c.args.pieces.now) (g.P.PieceSource.state c.args.pieces.now) c.in_err-location.ensures.sends)
+
+pub returns-in_err-bytes-clause-cuts : goal.returns-in_err-bytes-clause-cuts
+returns-in_err-bytes-clause-cuts g c = joined_refused (g.P.PieceSource.state c.args.pieces.now) (g.P.PieceSource.state c.pieces_read.new.pieces) _ _ c.from_residual-in_err-bytes.ensures.1 (none_joined (g.P.PieceSource.state c.args.pieces.now) (g.P.PieceSource.state c.pieces_read.new.pieces) (carries_front c.in_ok-location.ensures.sends))
+
+pub returns-then-as_slice-size-clause-cuts : goal.returns-then-as_slice-size-clause-cuts
+returns-then-as_slice-size-clause-cuts g c = none_joined (g.P.PieceSource.state c.args.pieces.now) (g.P.PieceSource.state c.pieces_read.new.pieces) (carries_front c.in_ok-location.ensures.sends)
+
+pub returns-in_err-url-clause-cuts : goal.returns-in_err-url-clause-cuts
+returns-in_err-url-clause-cuts g c = joined_refused (g.P.PieceSource.state c.args.pieces.now) (g.P.PieceSource.state c.pieces_read.new.pieces) _ _ c.from_residual-in_err-url.ensures.1 (ended_joined (g.P.PieceSource.state c.args.pieces.now) (g.P.PieceSource.state c.pieces_read.new.pieces) _ c.in_ok-bytes.ensures.gathers c.in_ok-location.ensures.sends c.in_err-url.ensures.sends)
+
+pub returns-clause-cuts : goal.returns-clause-cuts
+returns-clause-cuts g c = begun_joined (g.P.PieceSource.state c.args.pieces.now) (g.P.PieceSource.state c.pieces_read.new.pieces) _ c.in_ok-bytes.ensures.gathers c.in_ok-location.ensures.sends c.in_ok-url.ensures.sends

@@ -25,7 +25,7 @@ pub returns-in_err-next-clause-run : goal.returns-in_err-next-clause-run
 returns-in_err-next-clause-run g c = chunking_refused _ _ _ _ _ _ _ _ c.loop-left.invariant _ _ _ (omega (arith, c.loop-left-test.true)) (c.in_ok-chunk.ensures ∙ c.split_at.ensures.front ∙ ap (λ n. take n c.loop-left.left.now) c.min.ensures) c.in_err-next.ensures.run c.from_residual-in_err-next.ensures.1
 
 pub returns-in_err-next-clause-sends : goal.returns-in_err-next-clause-sends
-returns-in_err-next-clause-sends g c = sends_as _ _ _ c.from_residual-in_err-next.ensures.1 (chunking_part _ _ _ _ _ _ _ _ c.loop-left.invariant _ (c.in_ok-chunk.ensures ∙ c.split_at.ensures.front ∙ ap (λ n. take n c.loop-left.left.now) c.min.ensures) c.in_err-next.ensures.sends)
+returns-in_err-next-clause-sends g c = sends_as _ _ _ c.from_residual-in_err-next.ensures.1 (chunking_part _ _ _ _ _ _ _ _ c.loop-left.invariant _ (omega (arith, c.loop-left-test.true)) (c.in_ok-chunk.ensures ∙ c.split_at.ensures.front ∙ ap (λ n. take n c.loop-left.left.now) c.min.ensures) c.in_err-next.ensures.sends)
 
 pub overflow_add-place : goal.overflow_add-place
 overflow_add-place g c = omega (arith, c.loop-left.invariant.fits, c.min.ensures, c.split_at.ensures.front_len)

@@ -19,7 +19,7 @@ pub returns-in-Ok-read_body : goal.returns-in-Ok-read_body
 returns-in-Ok-read_body g c = λ k. location_refused _ _ _ _ k _ _ _ _ _ _ c.in-Ok.ensures.reached (rw c.is_success.ensures at c.if-is_success.false) c.read_body.ensures.count c.read_body.ensures.told c.read_body.ensures.steady c.in-Ok-read_body.ensures.within c.in-Ok-read_body.ensures.whole c.in-Ok-read_body.ensures.unbroken
 
 pub returns-in-Err-TransportFault : goal.returns-in-Err-TransportFault
-returns-in-Err-TransportFault g c = λ k. location_failed _ _ _ _ k _ _ _ _ _ c.in-Ok.ensures.reached c.read_body.ensures.count c.read_body.ensures.told c.read_body.ensures.steady (c.in-Err-TransportFault.ensures.fault (rw c.in-Err-TransportFault.field-0-is refl))
+returns-in-Err-TransportFault g c = λ k. location_failed _ _ _ _ k _ _ _ _ _ c.in-Ok.ensures.reached (rw c.is_success.ensures at c.if-is_success.false) c.read_body.ensures.count c.read_body.ensures.told c.read_body.ensures.steady (c.in-Err-TransportFault.ensures.fault (rw c.in-Err-TransportFault.field-0-is refl))
 
 pub returns-in-Err-BodyTooLong : goal.returns-in-Err-BodyTooLong
 returns-in-Err-BodyTooLong g c = λ k. location_long _ _ _ _ k _ _ _ _ _ c.in-Ok.ensures.reached (rw c.is_success.ensures at c.if-is_success.false) c.read_body.ensures.count c.read_body.ensures.told c.read_body.ensures.steady (c.in-Err-BodyTooLong.ensures.long (rw c.in-Err-BodyTooLong.field-0-is refl))

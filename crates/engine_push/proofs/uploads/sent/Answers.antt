@@ -1,6 +1,7 @@
 use Rattle.std.proofs.Common.{ℕ, List, Result, Ok}
 use Rattle.engine_terms.specs.declared.error.OciDistributionError.{OciDistributionError}
 use Rattle.engine_push.specs.Contents.{bytes_of}
+use Rattle.engine_push.specs.PieceStates.{part}
 use Rattle.engine_rows.proofs.Exits.{refused, and_then, said, passed_on}
 use Rattle.engine_push.specs.Uploads.{sent}
 use Rattle.engine_push.proofs.Carried.{sends_behind, sends_nothing}
@@ -46,4 +47,4 @@ returns-clause-run g c = and_then _ c.in_ok-token.ensures (and_then _ (said _ c.
 pub returns-clause-sends : goal.returns-clause-sends
 returns-clause-sends g c =
     let r : Result (List ℕ) OciDistributionError = Ok c.in_ok-location.location in
-    sends_behind (bytes_of c.args.content) _ _ _ r (token_bodiless _ _ _ _ c.in_ok-token.ensures) (as_sent c.args.content _ _ _ _ r c.in_ok-request.ensures (location_sends _ _ _ _ r (c.in_ok-location.ensures c.args.memory.now)))
+    sends_behind (part (bytes_of c.args.content)) _ _ _ r (token_bodiless _ _ _ _ c.in_ok-token.ensures) (as_sent c.args.content _ _ _ _ r c.in_ok-request.ensures (location_sends _ _ _ _ r (c.in_ok-location.ensures c.args.memory.now)))
