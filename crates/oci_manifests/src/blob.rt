@@ -1,7 +1,7 @@
 //! Layers and configurations: bytes with their media type.
 ghost use Rattle.std.specs.Prelude.{◌≡◌, IfOk, codes};
 ghost use Rattle.oci_digests.specs.Names.{digest_text};
-ghost use Rattle.oci_digests.specs.declared.digester.Algorithm.TheVariants.{Sha256};
+ghost use Rattle.oci_names.specs.declared.algorithm.Algorithm.TheVariants.{Sha256};
 ghost use Rattle.oci_manifests.specs.Blob.{typed_layer, typed_config};
 
 use json_values::{Annotations, Blob, Copied, Text, copied};

@@ -1,0 +1,4 @@
+pub mod BareRequests
+pub mod ExistenceLaws
+pub mod ListLaws
+pub mod StatusRefusals
