@@ -12,7 +12,8 @@ use Rattle.oci_protocol.specs.Runs.{Meets, PerformsPrefix, Performs}
 use Rattle.oci_protocol.proofs.Laws.{PerformsPrefix-first}
 use Rattle.engine_terms.specs.declared.error.OciDistributionError.{OciDistributionError}
 use Rattle.engine_terms.specs.declared.error.OciDistributionError.TheVariants as refusal
-use Rattle.engine_terms.specs.Error.{is_memory, Matches}
+use Rattle.json_values.specs.Refusals.{Matches}
+use Rattle.engine_terms.specs.Error.{is_memory}
 use Rattle.engine_terms.specs.Contexts.{Context}
 use Rattle.engine_answers.specs.Referrers.{referrers_in, tagged_index}
 use Rattle.engine_answers.specs.declared.answers.Got.{Got}
@@ -25,7 +26,7 @@ memory_is refusal.WantOfMemory is = refl
 memory_is _ is = absurd (cc is)
 
 -- out of memory cut the call off
-cut : {A : Type 0} {p : Row A} {old new : Link} {k l : AuthState} (r : Result A OciDistributionError) → PerformsPrefix p old new k l → Matches r (Err refusal.WantOfMemory) → Meets is_memory p old new k l r
+cut : {A : Type 0} {p : Row A} {old new : Link} {k l : AuthState} (r : Result A OciDistributionError) → PerformsPrefix p old new k l → Matches is_memory r (Err refusal.WantOfMemory) → Meets is_memory p old new k l r
 cut (Ok a) h w = absurd (cc w)
 cut {A} {p} {old} {new} {k} {l} (Err e) h w = record { outcome = by_memory (is_memory e) refl w } where
   by_memory : (b : Bool) → is_memory e ≡ b → MatchBool b (Unit {0}) (◌≡◌ {A = Result A OciDistributionError} (Err refusal.WantOfMemory) (Err e)) → MatchBool b (PerformsPrefix p old new k l) (Performs p old new k l (Err e))
@@ -33,7 +34,7 @@ cut {A} {p} {old} {new} {k} {l} (Err e) h w = record { outcome = by_memory (is_m
   by_memory false is w = absurd (cc (is, w))
 
 pub tagged_met : (digest : List ℕ) (kind : Option (List ℕ)) {p : Row (OciManifest × List ℕ)} {old new : Link} {k l : AuthState} (answer : Result (OciManifest × List ℕ) OciDistributionError) (r : Result OciImageIndex OciDistributionError)
-    → Meets is_memory p old new k l answer → Matches r (tagged_index digest kind answer) → Meets is_memory (bind p (λ answer. Done (tagged_index digest kind answer))) old new k l r
+    → Meets is_memory p old new k l answer → Matches is_memory r (tagged_index digest kind answer) → Meets is_memory (bind p (λ answer. Done (tagged_index digest kind answer))) old new k l r
 tagged_met digest kind (Ok found) r met says = caught _ met (said r says)
 tagged_met digest kind {p} {old} {new} {k} {l} (Err e) r met says = by_memory (is_memory e) refl where
   by_memory : (b : Bool) → is_memory e ≡ b → Meets is_memory (bind p (λ answer. Done (tagged_index digest kind answer))) old new k l r
@@ -50,7 +51,7 @@ is_other a b other = by_test (nat_eq a b) refl where
   by_test false is = is
 
 -- the registry responded to the request for the list
-pub listed_met : (s : Context) (image : Reference) (digest : List ℕ) (kind : Option (List ℕ)) (got : Got) {link : Link} {k : AuthState} (r : Result OciImageIndex OciDistributionError) → got.answer.status ≢ 404 → Matches r (referrers_in got) → Meets is_memory (referrers_by s image digest kind got) link link k k r
+pub listed_met : (s : Context) (image : Reference) (digest : List ℕ) (kind : Option (List ℕ)) (got : Got) {link : Link} {k : AuthState} (r : Result OciImageIndex OciDistributionError) → got.answer.status ≢ 404 → Matches is_memory r (referrers_in got) → Meets is_memory (referrers_by s image digest kind got) link link k k r
 listed_met s image digest kind got r other says = rw (is_other got.answer.status 404 other) (said r says)
 
 -- it has no such list

@@ -1,4 +1,5 @@
--- Why each call of a client was refused.
+-- Why each call of a client was refused. The words are those of `Causes.antt` in `engine_rows`, and for streams, lists
+-- and pushes of `Causes.antt` in `engine_streams`, `engine_listings`, `engine_push` and `engine_publish`.
 use Rattle.std.specs.Prelude.{◌≡◌, ℕ, List, Option, Some, None, Result, Err, IfErr}
 use Rattle.json_values.specs.Counts.{Increased}
 use Rattle.oci_transport.specs.Link.{Link}
@@ -6,6 +7,7 @@ use Rattle.oci_transport.specs.Urls.{request_url}
 use Rattle.oci_transport.specs.declared.message.Exchange.{Exchange}
 use Rattle.oci_names.specs.declared.reference.Reference.{Reference}
 use Rattle.oci_auth.specs.declared.auth.RegistryAuth.{RegistryAuth}
+use Rattle.oci_auth.specs.declared.token_type.RegistryOperation.TheVariants.{Push}
 use Rattle.oci_protocol.specs.Runs.{Told}
 use Rattle.engine_terms.specs.Contexts.{Context, within}
 use Rattle.engine_requests.specs.Requests.{manifest_types}
@@ -17,10 +19,26 @@ use Rattle.engine_terms.specs.declared.error.OciDistributionError.TheVariants as
 use Rattle.engine_rows.specs.Blobs.{Destination}
 use Rattle.oci_engine.specs.declared.client.Client.{Client}
 use Rattle.oci_engine.specs.Kept.{auth_state_of}
-use Rattle.engine_rows.specs.Held.{pulling}
+use Rattle.engine_rows.specs.Held.{Entry, asking, pulling}
 use Rattle.engine_rows.specs.ReferrersCauses.{ReferrersCause}
 use Rattle.engine_rows.specs.Causes.{Cause, AnswerCause, DocumentCause, BadHeader, OwnDigest, ManifestUrl}
 use Rattle.engine_rows.specs.Causes.{BlobUrl, BlobCause, FoundCause, ConfigCause, ImageCause, IsRefusedAs}
+use Rattle.engine_streams.specs.declared.range.ByteRange.{ByteRange}
+use Rattle.engine_streams.specs.Causes.{StreamCause, StreamUrl}
+use Rattle.engine_listings.specs.Causes.{BadValue, ExistsUrl, ExistsAnswer, ListUrl, ListAnswer}
+use Rattle.engine_listings.specs.Listings.{tags_text, catalog_text}
+use Rattle.engine_push.specs.Causes.{UploadCause, MountCause}
+use Rattle.engine_publish.specs.Calls.{manifest_for}
+use Rattle.engine_publish.specs.Causes.{ManifestPushCause, ImagePushCause, blobs_of}
+use Rattle.oci_manifests.specs.Document.{content_type_of}
+use Rattle.oci_manifests.specs.declared.blob.Config.{Config}
+use Rattle.oci_manifests.specs.declared.blob.ImageLayer.{ImageLayer}
+use Rattle.oci_manifests.specs.declared.document.OciManifest.TheVariants.{Image}
+use Rattle.oci_manifests.specs.declared.manifest.OciImageManifest.{OciImageManifest}
+use Rattle.oci_docs.specs.Tags.{tag_response_of}
+use Rattle.oci_docs.specs.Catalog.{catalog_response_of}
+
+-- ---- what clauses state
 
 -- the exchanges exposed between two states of a transport have the cause of the refusal, if the call was refused
 abbrev pub RefusedFor : {A : Type 0} → (List Exchange → ℕ → OciDistributionError → Type 0) → Link → Link
@@ -35,6 +53,10 @@ FaultCounted old new r = r ≡ Err refusal.TransportFault → Increased old.faul
 abbrev pub UrlRefused : {A : Type 0} → List ℕ → Result A OciDistributionError → Type 0
 UrlRefused text r = request_url text ≡ None → IsRefusedAs (refusal.UrlParseError text) r
 
+-- a reference without a digest is refused as such, unless memory ran out
+abbrev pub DigestWanted : {A : Type 0} → Reference → Result A OciDistributionError → Type 0
+DigestWanted image r = digest_of image ≡ None → IsRefusedAs (refusal.GenericError NoDigest) r
+
 -- a client's call at a moment, for this image
 abbrev pub at_moment : Client → ℕ → Context
 at_moment client moment = within client.settings moment
@@ -43,6 +65,13 @@ at_moment client moment = within client.settings moment
 abbrev pub BadHeaderOf : Client → ℕ → Reference → Option RegistryAuth → List ℕ → List Exchange → Type 0
 BadHeaderOf client moment image a types =
     BadHeader (pulling (auth_state_of client) (at_moment client moment) image a) client.settings types
+
+-- the same of a request that lists no types
+abbrev pub BadValueOf : Client → ℕ → Reference → Option RegistryAuth → List Exchange → Type 0
+BadValueOf client moment image a = BadValue (pulling (auth_state_of client) (at_moment client moment) image a)
+    client.settings
+
+-- ---- manifests, images and blobs
 
 -- of the image's digest
 abbrev pub DigestRefused : Client → ℕ → Reference → RegistryAuth → List Exchange → ℕ
@@ -96,6 +125,62 @@ abbrev pub ReferrersRefused : Client → ℕ → Reference → List Exchange →
 ReferrersRefused client moment image c now e =
     ReferrersCause (pulling (auth_state_of client) (at_moment client moment) image None) client.settings c now e
 
--- a reference without a digest is refused as such, unless memory ran out
-abbrev pub DigestWanted : {A : Type 0} → Reference → Result A OciDistributionError → Type 0
-DigestWanted image r = digest_of image ≡ None → IsRefusedAs (refusal.GenericError NoDigest) r
+-- ---- streams
+
+-- of a stream of a blob, or of a part of it
+abbrev pub StreamRefused : Option ByteRange → Client → ℕ → Reference → Layer → List Exchange → ℕ
+    → OciDistributionError → Type 0
+StreamRefused range client moment image layer c now e =
+    StreamCause range (StreamUrl range client.settings image layer)
+    (BadHeaderOf client moment image None manifest_types) client.settings layer.digest c now e
+
+-- ---- what a registry lists, and whether a blob is there
+
+abbrev pub ExistsRefused : Client → ℕ → Reference → List ℕ → List Exchange → ℕ → OciDistributionError → Type 0
+ExistsRefused client moment image digest c now e =
+    Cause (ExistsUrl client.settings image digest) ExistsAnswer
+    (BadValueOf client moment image None) client.settings c now e
+
+-- of the tags of the image's repository, or a page of them
+abbrev pub TagsRefused : Client → ℕ → Reference → RegistryAuth → Option ℕ → Option (List ℕ) → List Exchange → ℕ
+    → OciDistributionError → Type 0
+TagsRefused client moment image a n last c now e =
+    Cause (ListUrl client.settings image (tags_text client.settings image) n last) (ListAnswer tag_response_of)
+    (BadValueOf client moment image (Some a)) client.settings c now e
+
+-- of the repositories of its registry, or a page of them
+abbrev pub CatalogRefused : Client → ℕ → Reference → RegistryAuth → Option ℕ → Option (List ℕ) → List Exchange → ℕ
+    → OciDistributionError → Type 0
+CatalogRefused client moment image a n last c now e =
+    Cause (ListUrl client.settings image (catalog_text client.settings image) n last)
+    (ListAnswer catalog_response_of)
+    (BadValueOf client moment image (Some a)) client.settings c now e
+
+-- ---- pushes of blobs
+
+-- a push for this image; credentials may be passed in
+abbrev pub pushing : Client → ℕ → Reference → Option RegistryAuth → Entry
+pushing client moment image handed = asking (auth_state_of client) (at_moment client moment) image Push handed
+
+-- where `Own` is what the call itself may refuse
+abbrev pub PushRefused : (OciDistributionError → Type 0) → Client → ℕ → Reference → List Exchange → ℕ
+    → OciDistributionError → Type 0
+PushRefused Own client moment image c now e = UploadCause Own (pushing client moment image None) client.settings c now e
+
+abbrev pub MountRefused : Client → ℕ → Reference → List Exchange → ℕ → OciDistributionError → Type 0
+MountRefused client moment image c now e = MountCause (pushing client moment image None) client.settings c now e
+
+-- ---- pushes of manifests and images
+
+-- of a document of this content type
+abbrev pub ManifestPushRefused : List ℕ → Option RegistryAuth → Client → ℕ → Reference → List Exchange → ℕ
+    → OciDistributionError → Type 0
+ManifestPushRefused kind handed client moment image c now e =
+    ManifestPushCause kind (pushing client moment image handed) client.settings c now e
+
+-- of an image, whose manifest may be passed in
+abbrev pub ImagePushRefused : List ImageLayer → Config → Client → ℕ → Reference → RegistryAuth → Option OciImageManifest
+    → List Exchange → ℕ → OciDistributionError → Type 0
+ImagePushRefused layers config client moment image a given c now e =
+    ImagePushCause (blobs_of layers config) (content_type_of (Image (manifest_for given layers config)))
+    (pushing client moment image (Some a)) client.settings c now e

@@ -1,5 +1,6 @@
 // Configurations as configuration files.
-ghost use Rattle.engine_terms.specs.Error.{Matches};
+ghost use Rattle.json_values.specs.Refusals.{Matches};
+ghost use Rattle.engine_terms.specs.Error.{is_memory};
 ghost use Rattle.oci_engine.specs.ConfigFiles.{config_file};
 
 use engine_terms::OciDistributionError;
@@ -10,7 +11,7 @@ use std::alloc::Global;
 
 /// Parses the configuration as a configuration file. If it is malformed, `ConfigConversionError` contains it.
 pub fn config_file(alloc: Global, config: &Config) -> Result<ConfigFile, OciDistributionError>
-    ensures { Matches result (config_file config.now.content) }
+    ensures { Matches is_memory result (config_file config.now.content) }
 {
     match ConfigFile::from_config(alloc, config) {
         Ok(file) => Ok(file),

@@ -5,7 +5,9 @@ mod certificate;
 mod client;
 mod config;
 mod config_files;
+mod listings;
 mod manifests;
+mod publishing;
 mod pushes;
 mod referrers;
 mod source;
@@ -18,6 +20,7 @@ pub use config::{
     DEFAULT_TOKEN_EXPIRATION_SECS,
 };
 pub use config_files::config_file;
+pub use engine_publish::PushResponse;
 pub use engine_push::{MemoryPieces, PieceSource, PushBlobStreamChunkedResponse};
 pub use engine_requests::{AsLayerDescriptor, LayerDescriptor};
 pub use engine_rows::ImageData;
@@ -29,4 +32,5 @@ pub use oci_descriptors::{
     PlatformResolver, ResolverPromise, current_platform_resolver, linux_amd64_resolver,
     windows_amd64_resolver,
 };
+pub use oci_docs::{CatalogResponse, TagResponse};
 pub use source::ClientConfigSource;

@@ -1,15 +1,18 @@
 // The calls that push blobs.
-ghost use Rattle.std.specs.Prelude.{◌≡◌, None, IfErr};
+ghost use Rattle.std.specs.Prelude.{◌≡◌, false, None, IfErr};
 ghost use Rattle.oci_auth.specs.declared.token_type.RegistryOperation.TheVariants.{Push};
 ghost use Rattle.oci_protocol.specs.Runs.{Meets};
 ghost use Rattle.engine_terms.specs.Error.{is_memory};
 ghost use Rattle.engine_push.specs.Calls.{push_blob, push_blob_stream, push_blob_stream_chunked, mount_blob};
-ghost use Rattle.engine_push.specs.Sources.{Pushes, SourceCause};
-ghost use Rattle.engine_push.specs.Causes.{OfBytes, OfStream, OfNamedStream, OfNothing};
+ghost use Rattle.engine_push.specs.Sources.{Pushes, Cuts, CutBy, SourceCause};
+ghost use Rattle.engine_push.specs.Causes.{OfBytes, OfStream, OfNamedStream, IsSized};
+ghost use Rattle.engine_requests.specs.Addresses.{uploads_text};
+ghost use Rattle.engine_rows.specs.Causes.{IsEarly};
+ghost use Rattle.oci_transport.specs.Headers.{is_header_value};
 ghost use Rattle.oci_engine.specs.Confinement.{StaysFor};
 ghost use Rattle.oci_engine.specs.Kept.{auth_state_of};
-ghost use Rattle.oci_engine.specs.PushRefusals.{PushRefused};
-ghost use Rattle.oci_engine.specs.Refusals.{RefusedFor, FaultCounted, at_moment};
+ghost use Rattle.oci_engine.specs.Refusals.{RefusedFor, FaultCounted, UrlRefused, at_moment};
+ghost use Rattle.oci_engine.specs.Refusals.{PushRefused, MountRefused};
 
 use crate::client::{Client, lent};
 use engine_push::{PieceSource, PushBlobStreamChunkedResponse};
@@ -39,9 +42,11 @@ impl Client {
         ensures settings { self.new.settings ≡ self.old.settings }
         ensures confined { StaysFor Push self.old self.new moment image_ref.now None
             (T.state transport.old) (T.state transport.new) }
-        ensures causes { RefusedFor (PushRefused (OfBytes content.now) self.old image_ref.now)
+        ensures causes { RefusedFor (PushRefused (OfBytes content.now) self.old moment image_ref.now)
             (T.state transport.old) (T.state transport.new) result }
         ensures fault { FaultCounted (T.state transport.old) (T.state transport.new) result }
+        ensures invalid_url { UrlRefused (uploads_text self.old.settings image_ref.now) result }
+        ensures bad_header { is_header_value self.old.settings.user_agent ≡ false → IsEarly result }
     {
         let call = Call {
             settings: &self.settings,
@@ -76,13 +81,19 @@ impl Client {
         ensures settings { self.new.settings ≡ self.old.settings }
         ensures pushes { Pushes (P.state pieces.old) (P.state pieces.new)
             (T.state transport.old) (T.state transport.new) result }
+        ensures cuts { CutBy self.old.settings.use_monolithic_push (P.state pieces.old) (P.state pieces.new)
+            (T.state transport.old) (T.state transport.new) result }
         ensures source { IfErr result (SourceCause self.old.settings.max_body_bytes size
             (P.state pieces.old) (P.state pieces.new) (T.state transport.old) (T.state transport.new)) }
         ensures confined { StaysFor Push self.old self.new moment image.now None
             (T.state transport.old) (T.state transport.new) }
-        ensures causes { RefusedFor (PushRefused (OfStream size) self.old image.now)
+        ensures causes { RefusedFor (PushRefused (OfStream size) self.old moment image.now)
             (T.state transport.old) (T.state transport.new) result }
         ensures fault { FaultCounted (T.state transport.old) (T.state transport.new) result }
+        ensures invalid_url { IsSized self.old.settings size
+            → UrlRefused (uploads_text self.old.settings image.now) result }
+        ensures bad_header { IsSized self.old.settings size
+            → is_header_value self.old.settings.user_agent ≡ false → IsEarly result }
     {
         let call = Call {
             settings: &self.settings,
@@ -120,13 +131,17 @@ impl Client {
         ensures settings { self.new.settings ≡ self.old.settings }
         ensures pushes { Pushes (P.state pieces.old) (P.state pieces.new)
             (T.state transport.old) (T.state transport.new) result }
+        ensures cuts { Cuts (P.state pieces.old) (P.state pieces.new)
+            (T.state transport.old) (T.state transport.new) result }
         ensures source { IfErr result (SourceCause self.old.settings.max_body_bytes None
             (P.state pieces.old) (P.state pieces.new) (T.state transport.old) (T.state transport.new)) }
         ensures confined { StaysFor Push self.old self.new moment image.now None
             (T.state transport.old) (T.state transport.new) }
-        ensures causes { RefusedFor (PushRefused OfNamedStream self.old image.now)
+        ensures causes { RefusedFor (PushRefused OfNamedStream self.old moment image.now)
             (T.state transport.old) (T.state transport.new) result }
         ensures fault { FaultCounted (T.state transport.old) (T.state transport.new) result }
+        ensures invalid_url { UrlRefused (uploads_text self.old.settings image.now) result }
+        ensures bad_header { is_header_value self.old.settings.user_agent ≡ false → IsEarly result }
     {
         let call = Call {
             settings: &self.settings,
@@ -155,9 +170,11 @@ impl Client {
         ensures settings { self.new.settings ≡ self.old.settings }
         ensures confined { StaysFor Push self.old self.new moment image.now None
             (T.state transport.old) (T.state transport.new) }
-        ensures causes { RefusedFor (PushRefused OfNothing self.old image.now)
+        ensures causes { RefusedFor (MountRefused self.old moment image.now)
             (T.state transport.old) (T.state transport.new) result }
         ensures fault { FaultCounted (T.state transport.old) (T.state transport.new) result }
+        ensures invalid_url { UrlRefused (uploads_text self.old.settings image.now) result }
+        ensures bad_header { is_header_value self.old.settings.user_agent ≡ false → IsEarly result }
     {
         let call = Call {
             settings: &self.settings,

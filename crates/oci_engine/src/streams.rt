@@ -10,8 +10,7 @@ ghost use Rattle.engine_streams.specs.Streams.{IsOpen, opening_of};
 ghost use Rattle.engine_rows.specs.Causes.{HasBadHeader, IsEarly, IsRefusedAs};
 ghost use Rattle.oci_engine.specs.Confinement.{StaysConfined};
 ghost use Rattle.oci_engine.specs.Kept.{auth_state_of};
-ghost use Rattle.oci_engine.specs.Refusals.{RefusedFor, FaultCounted, UrlRefused, at_moment};
-ghost use Rattle.oci_engine.specs.StreamRefusals.{StreamRefused};
+ghost use Rattle.oci_engine.specs.Refusals.{RefusedFor, FaultCounted, UrlRefused, StreamRefused, at_moment};
 ghost use Rattle.engine_streams.specs.Causes.{Overflows, Fits, range_of};
 
 use crate::client::{Client, lent};

@@ -1,6 +1,8 @@
 use Rattle.engine_terms.specs.Contexts.{within}
+use Rattle.engine_laws.proofs.ExactRefusals.{met_only, met_early}
 use Rattle.push_laws.proofs.CallCauses.{mount_reason, mount_fault}
 use Rattle.push_laws.proofs.Confinement.{mount_confined}
+use Rattle.push_laws.proofs.EarlyPushes.{mount_url, mount_bad}
 use Rattle.oci_engine.proofs.client.Client.mount_blob.Goals as goal
 
 pub returns-clause-confined : goal.returns-clause-confined
@@ -11,6 +13,12 @@ returns-clause-causes g c = mount_reason (within c.args.self.now.settings c.args
 
 pub returns-clause-fault : goal.returns-clause-fault
 returns-clause-fault g c = mount_fault (within c.args.self.now.settings c.args.moment) c.args.image.now _ _ _ (rw c.lend-memory.ensures at c.mount_blob-answer.ensures)
+
+pub returns-clause-invalid_url : goal.returns-clause-invalid_url
+returns-clause-invalid_url g c = λ none. met_only _ (mount_url (within c.args.self.now.settings c.args.moment) c.args.image.now _ _ none) (rw c.lend-memory.ensures at c.mount_blob-answer.ensures)
+
+pub returns-clause-bad_header : goal.returns-clause-bad_header
+returns-clause-bad_header g c = λ bad. met_early (mount_bad (within c.args.self.now.settings c.args.moment) c.args.image.now _ _ bad) (rw c.lend-memory.ensures at c.mount_blob-answer.ensures)
 
 pub returns-clause-run : goal.returns-clause-run
 returns-clause-run g c = rw c.lend-memory.ensures at c.mount_blob-answer.ensures
