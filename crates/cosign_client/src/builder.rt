@@ -2,6 +2,7 @@
 ghost use Rattle.std.specs.Prelude.{◌≡◌, true, false, IfOk};
 ghost use Rattle.std.specs.FinMap as map;
 ghost use Rattle.sig_registry.specs.Config.{default_config};
+ghost use Rattle.cosign_shelves.specs.Settled.{IsSettledForAll};
 ghost use Rattle.cosign_client.specs.Builder.{config_of, caches, keys_of, keys_or, fresh_client};
 ghost use Rattle.cosign_client.specs.State.{client_state};
 
@@ -100,6 +101,7 @@ impl ClientBuilder {
     pub fn build(self, alloc: Global) -> Result<Client, AllocError>
         ensures client { IfOk result (λ client. client_state client ≡ fresh_client (config_of self) (caches self)) }
         ensures keys { IfOk result (λ client. client.rekor_pub_keys ≡ keys_of self) }
+        ensures settled { IfOk result (λ client. IsSettledForAll (client_state client).kept) }
     {
         let ClientBuilder {
             oci_client_config,

@@ -2,36 +2,38 @@
 ghost use Rattle.std.specs.Prelude.{◌≡◌, true, false, Some, Err, IfOk, IfErr, IsTrue};
 ghost use Rattle.engine_terms.specs.Contexts.{within};
 ghost use Rattle.oci_link.specs.declared.shelf.Shelf.{Shelf};
-ghost use Rattle.oci_names.specs.Reference.{whole_text, reads_back};
+ghost use Rattle.oci_names.specs.Reference.{whole_text, reads_back, resolved_registry};
 ghost use Rattle.oci_protocol.specs.Ends.{UnlessMemory};
 ghost use Rattle.oci_protocol.specs.Runs.{Meets, Told};
 ghost use Rattle.cosign_chain.specs.Chain.{Chain};
 ghost use Rattle.cosign_chain.specs.Links.{Links};
 ghost use Rattle.cosign_layers.specs.Satisfying.{policy_context};
-ghost use Rattle.registry_calls.specs.Confinement.{StaysConfined};
+ghost use Rattle.registry_calls.specs.Clients.{KeepsAnswers};
+ghost use Rattle.registry_calls.specs.Confinement.{StaysConfined, StaysForPush};
 ghost use Rattle.registry_cache.specs.Auths.{registry_auth};
 ghost use Rattle.registry_calls.specs.Direct.{reference_in};
-ghost use Rattle.registry_calls.specs.Error.{is_memory as of_memory};
-ghost use Rattle.registry_calls.specs.Error.{FaultCounted as SearchFaultCounted, NoSinkFault as NoSinkInSearch};
+ghost use Rattle.registry_calls.specs.Error.{is_memory as of_memory, registry_refusal, FaultCounted, NoSinkFault};
 ghost use Rattle.cosign_rows.specs.Causes.{PullCause, SearchCause};
 ghost use Rattle.cosign_rows.specs.DigestStep.{BeginsWithDigest, IsRefusedAs, unchanged};
 ghost use Rattle.cosign_rows.specs.Snapshots.{snapshot_of};
-ghost use Rattle.cosign_rows.specs.Refusal.{is_memory, refused_as, FaultCounted, NoSinkFault};
+ghost use Rattle.cosign_rows.specs.Refusal.{is_memory, refused_as, client_refusal};
 ghost use Rattle.cosign_rows.specs.Search.{searched};
-ghost use Rattle.cosign_shelves.specs.Settled.{IsSettled};
-ghost use Rattle.cosign_shelves.specs.Shelves.{AnswersFrom, IsAsked, OkOrMemory, ValidShelf, WideShelf};
+ghost use Rattle.cosign_shelves.specs.Settled.{IsSettled, StaysSettled};
+ghost use Rattle.cosign_shelves.specs.Shelves.{AnswersFrom, OkOrMemory, ValidShelf, WideShelf};
 ghost use Rattle.cosign_rows.specs.Skips.{CountsFaults, HoldsNoMemoryNorSink, OnSkipped};
 ghost use Rattle.cosign_rows.specs.Sound.{Backed};
 ghost use Rattle.cosign_rows.specs.Triangulated.{tag_shown, triangulated};
 ghost use Rattle.cosign_rows.specs.Verified.{is_unconstrained, verified};
 
+use crate::signature::{SignatureImage, signature_image};
 use cosign_chain::VerifiedImage;
 use cosign_layers::PullPolicy;
-use cosign_parts::{LogKeys, Offline, SignatureVerifier, Trusted};
+use cosign_parts::{LogKeys, Offline, SignatureLayer, SignatureVerifier, Trusted};
 use cosign_pull::pull_verified;
 use cosign_rows::{Asked, PullRefusal, Terms, TrustedLayers, oci_tag_reference};
 use cosign_search::search;
-use json_values::Text;
+use engine_publish::PushResponse;
+use json_values::{Annotations, Text};
 use oci_transport::Transport;
 use sig_registry::{Auth, ClientCapabilities, OciReference, RegistryClient, SigstoreError};
 use std::alloc::Global;
@@ -46,6 +48,8 @@ pub struct Client {
 }
 
 impl Client {
+    ghost use Rattle.cosign_client.specs.Keeping.{KeepsOnly};
+    ghost use Rattle.cosign_client.specs.PushedSignatures.{PushesSignatures};
     ghost use Rattle.cosign_client.specs.State.{client_state, trusts};
 
     /// Returns the reference of the image's signature tag, and the digest that was returned for the image. The tag
@@ -67,8 +71,8 @@ impl Client {
             (client_state self.old).kept (client_state self.new).kept (tag_shown result) }
         ensures settings { (client_state self.new).settings ≡ (client_state self.old).settings }
         ensures keys { self.new.rekor_pub_keys ≡ self.old.rekor_pub_keys }
-        ensures fault { SearchFaultCounted (T.state transport.old) (T.state transport.new) result }
-        ensures no_sink_fault { NoSinkInSearch result }
+        ensures fault { FaultCounted registry_refusal (T.state transport.old) (T.state transport.new) result }
+        ensures no_sink_fault { NoSinkFault registry_refusal result }
         ensures confined { StaysConfined (client_state self.old) (client_state self.new) moment (reference_in image.now)
             (Some (registry_auth auth.now)) (T.state transport.old) (T.state transport.new) }
     {
@@ -117,8 +121,8 @@ impl Client {
             (snapshot_of (client_state self.old) (T.state transport.old)) c
             (snapshot_of (client_state self.new) (T.state transport.new)) e)
             (T.state transport.old) (T.state transport.new)) }
-        ensures fault { SearchFaultCounted (T.state transport.old) (T.state transport.new) result }
-        ensures no_sink_fault { NoSinkInSearch result }
+        ensures fault { FaultCounted registry_refusal (T.state transport.old) (T.state transport.new) result }
+        ensures no_sink_fault { NoSinkFault registry_refusal result }
         ensures no_memory { IfOk result (λ found. HoldsNoMemoryNorSink found.skipped) }
         ensures faults { IfOk result (λ found. CountsFaults
             (T.state transport.old).faults (T.state transport.new).faults found.skipped) }
@@ -143,6 +147,55 @@ impl Client {
             transport,
             &asked,
             &trusted,
+        )
+    }
+
+    /// Pushes signatures: an image with a layer for each signature layer that has a payload, its text and its
+    /// signature, and with these annotations of its manifest. Nothing else of the layers is pushed, no certificate and
+    /// no log entry. `moment` is in seconds since 1970.
+    ///
+    /// The text of a payload is written anew, so its signature is valid only if that very text was signed.
+    ///
+    /// Returns `RegistryPushError` if the image is not pushed.
+    pub fn push_signature<T: Transport>(
+        &mut self,
+        alloc: Global,
+        transport: &mut T,
+        moment: u64,
+        annotations: Option<Annotations>,
+        auth: &Auth,
+        target_reference: &OciReference,
+        signature_layers: &[SignatureLayer],
+    ) -> Result<PushResponse, SigstoreError>
+        ensures run { PushesSignatures signature_layers.now annotations
+            (within (client_state self.old).settings moment) (reference_in target_reference.now)
+            (registry_auth auth.now) (client_state self.old).kept (client_state self.new).kept
+            (T.state transport.old) (T.state transport.new) result }
+        ensures settings { (client_state self.new).settings ≡ (client_state self.old).settings }
+        ensures keys { self.new.rekor_pub_keys ≡ self.old.rekor_pub_keys }
+        ensures fault { FaultCounted registry_refusal (T.state transport.old) (T.state transport.new) result }
+        ensures no_sink_fault { NoSinkFault registry_refusal result }
+        ensures confined { StaysForPush (client_state self.old) (client_state self.new) moment
+            (reference_in target_reference.now) (Some (registry_auth auth.now))
+            (T.state transport.old) (T.state transport.new) }
+        ensures answers { KeepsAnswers (client_state self.old) (client_state self.new) }
+    {
+        let auth = auth.to_registry(alloc)?;
+        let built = signature_image(alloc, signature_layers, annotations)?;
+        let SignatureImage {
+            layers,
+            config,
+            manifest,
+        } = built;
+        self.registry_client.push(
+            alloc,
+            transport,
+            moment,
+            target_reference.reference(),
+            layers.as_slice(),
+            config,
+            &auth,
+            Some(manifest),
         )
     }
 
@@ -204,8 +257,8 @@ impl Client {
             (reference_in image.now) (registry_auth auth.now) c v)
             (T.state transport.old) (T.state transport.new)) }
         ensures links { IfOk result (λ v. Links (reference_in image.now) accepted_media_types.now v) }
-        ensures fault { FaultCounted (T.state transport.old) (T.state transport.new) result }
-        ensures no_sink_fault { NoSinkFault result }
+        ensures fault { FaultCounted client_refusal (T.state transport.old) (T.state transport.new) result }
+        ensures no_sink_fault { NoSinkFault client_refusal result }
         ensures no_memory { IfErr result (λ e. OnSkipped HoldsNoMemoryNorSink e) }
         ensures faults { IfErr result (λ e. OnSkipped
             (CountsFaults (T.state transport.old).faults (T.state transport.new).faults) e) }
@@ -226,11 +279,12 @@ impl Client {
             (client_state self.old).settings (reference_in image.now) (registry_auth auth.now)
             accepted_media_types.now shelf → OkOrMemory result }
         ensures settled { (shelf : Shelf) → AnswersFrom shelf (T.state transport.old)
-            → IsAsked (client_state self.old).settings (reference_in image.now) (registry_auth auth.now) shelf
             → IsSettled (client_state self.old).settings (reference_in image.now) (registry_auth auth.now) shelf
             (client_state self.old).kept
-            → UnlessMemory is_memory (λ r. IsSettled (client_state self.old).settings (reference_in image.now)
-            (registry_auth auth.now) shelf (client_state self.new).kept) result }
+            → StaysSettled (client_state self.old).settings (resolved_registry (reference_in image.now))
+            (registry_auth auth.now) shelf (client_state self.old).kept (client_state self.new).kept }
+        ensures keeps { KeepsOnly (client_state self.old).kept (reference_in image.now) (registry_auth auth.now)
+            (client_state self.new).kept }
     {
         let terms = Terms {
             accepted: accepted_media_types,

@@ -4,6 +4,7 @@
 mod asked;
 mod builder;
 mod client;
+mod signature;
 mod trust_root;
 mod written_client;
 
@@ -12,5 +13,7 @@ pub use builder::ClientBuilder;
 pub use client::Client;
 pub use cosign_chain::{VerifiedImage, check_chain, check_links};
 pub use cosign_rows::{PullRefusal, SkipCause, Skipped, SourceKind, TrustedLayers};
+pub use engine_publish::PushResponse;
+pub use signature::{SignatureImage, pushed_signatures_are_found, signature_image};
 pub use trust_root::TrustRoot;
 pub use written_client::{WrittenClient, client_by};

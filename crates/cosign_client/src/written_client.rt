@@ -3,6 +3,7 @@ ghost use Rattle.std.specs.Prelude.{◌≡◌};
 ghost use Rattle.cosign_client.specs.State.{client_state};
 ghost use Rattle.sig_registry.specs.States.{fresh_state};
 ghost use Rattle.cosign_client.specs.Clients.{config_by};
+ghost use Rattle.cosign_shelves.specs.Settled.{IsSettledForAll};
 
 use crate::client::Client;
 use cosign_parts::LogKeys;
@@ -29,6 +30,7 @@ pub struct WrittenClient {
 pub fn client_by(alloc: Global, usual: ClientConfig, written: WrittenClient) -> Client
     ensures state { client_state result ≡ fresh_state (config_by usual written) written.caching }
     ensures log_keys { result.rekor_pub_keys ≡ written.log_keys }
+    ensures settled { IsSettledForAll (client_state result).kept }
 {
     let WrittenClient {
         protocol,

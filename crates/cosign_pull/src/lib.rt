@@ -1,4 +1,4 @@
-//! The pull of the image that a digest names, its documents and its blobs, and the pull of an image only where a trusted
+//! The pull of the image that a digest names, its documents and its blobs, and the pull of an image only if a trusted
 //! signature stands for it, by any client of registries.
 #![tactic(auto)]
 

@@ -3,10 +3,11 @@ ghost use Rattle.std.specs.Prelude.{◌≡◌, IfOk};
 ghost use Rattle.engine_terms.specs.Contexts.{within};
 ghost use Rattle.oci_names.specs.Reference.{digest_of, whole_text};
 ghost use Rattle.engine_terms.specs.declared.settings.Settings.{Settings};
-ghost use Rattle.engine_terms.specs.Error.{Matches as SaysEngine};
+ghost use Rattle.json_values.specs.Refusals.{Matches};
+ghost use Rattle.engine_terms.specs.Error.{is_memory as engine_is_memory};
 ghost use Rattle.engine_requests.specs.Requests.{listed, manifest_types};
 ghost use Rattle.engine_answers.specs.Index.{entry_found};
-ghost use Rattle.registry_calls.specs.Error.{is_memory, Matches};
+ghost use Rattle.registry_calls.specs.Error.{is_memory};
 ghost use Rattle.registry_calls.specs.ErrorContext.{with_error_context};
 ghost use Rattle.registry_calls.specs.declared.error_context.Called.TheVariants.{Pull};
 ghost use Rattle.registry_calls.specs.Clients.{ClientMeets};
@@ -49,7 +50,7 @@ fn named_by_reference(
     image: &Reference,
     bytes: &Blob,
 ) -> Result<(), OciDistributionError>
-    ensures { SaysEngine result (named_by_reference (digest_of image.now) bytes.now) }
+    ensures { Matches engine_is_memory result (named_by_reference (digest_of image.now) bytes.now) }
 {
     let Some(digest) = image.digest() else {
         return Ok(());
@@ -67,7 +68,7 @@ fn document_in(
     image: &Reference,
     bytes: &Blob,
 ) -> Result<OciManifest, OciDistributionError>
-    ensures { SaysEngine result (document_in image.now bytes.now) }
+    ensures { Matches engine_is_memory result (document_in image.now bytes.now) }
 {
     named_by_reference(alloc, image, bytes)?;
     let document = read_document(alloc, bytes)?;
@@ -80,7 +81,7 @@ fn entry_in(
     entry: &str,
     bytes: &Blob,
 ) -> Result<OciImageManifest, OciDistributionError>
-    ensures { SaysEngine result (entry_in entry.now bytes.now) }
+    ensures { Matches engine_is_memory result (entry_in entry.now bytes.now) }
 {
     let document = read_document(alloc, bytes)?;
     let manifest = entry_manifest(alloc, entry, document)?;
@@ -160,7 +161,7 @@ fn entry_of<C: ClientCapabilities>(
     source: &Reference,
     entries: &[ImageIndexEntry],
 ) -> Result<Text, SigstoreError>
-    ensures { Matches result (with_error_context Pull (whole_text source.now)
+    ensures { Matches is_memory result (with_error_context Pull (whole_text source.now)
         (entry_found (C.state client.now).settings.platform_resolver entries.now)) }
 {
     let resolver = platform_resolver(alloc, client)?;
@@ -174,7 +175,7 @@ fn with_image(
     source: &Reference,
     found: Result<(Blob, Text), SigstoreError>,
 ) -> Result<(Blob, Text), SigstoreError>
-    ensures { Matches result (with_image (whole_text source.now) found) }
+    ensures { Matches is_memory result (with_image (whole_text source.now) found) }
 {
     match found {
         Ok(found) => Ok(found),
@@ -190,6 +191,9 @@ fn with_image(
         }
         Err(SigstoreError::RegistryPullManifestError { image, error }) => {
             Err(SigstoreError::RegistryPullManifestError { image, error })
+        }
+        Err(SigstoreError::RegistryPushError { image, error }) => {
+            Err(SigstoreError::RegistryPushError { image, error })
         }
         Err(SigstoreError::WantOfMemory) => Err(SigstoreError::WantOfMemory),
     }

@@ -6,7 +6,8 @@ ghost use Rattle.oci_names.specs.Reference.{reads_back};
 ghost use Rattle.registry_calls.specs.Clients.{ClientMeets};
 ghost use Rattle.registry_cache.specs.Auths.{registry_auth};
 ghost use Rattle.cosign_layers.specs.Satisfying.{satisfies_policy};
-ghost use Rattle.cosign_rows.specs.Refusal.{is_memory, Matches};
+ghost use Rattle.json_values.specs.Refusals.{Matches};
+ghost use Rattle.cosign_rows.specs.Refusal.{is_memory};
 ghost use Rattle.cosign_rows.specs.Terms.{meaning_of};
 ghost use Rattle.cosign_rows.specs.Tails.{after_search, after_selection};
 ghost use Rattle.cosign_rows.specs.Verified.{constrained, is_unconstrained};
@@ -196,7 +197,7 @@ fn constrained(policy: &PullPolicy) -> Result<(), PullRefusal>
 
 // Refuses a reference that does not round-trip.
 fn readable(alloc: Global, image: &Reference) -> Result<(), PullRefusal>
-    ensures { Matches result (readable image.now) }
+    ensures { Matches is_memory result (readable image.now) }
 {
     let reads_back = image.reads_back(alloc)?;
     if reads_back {

@@ -14,10 +14,11 @@ use Rattle.registry_calls.specs.Calls.{digest_call}
 use Rattle.registry_calls.specs.declared.error.SigstoreError.{SigstoreError}
 use Rattle.registry_calls.specs.declared.error.SigstoreError.TheVariants as sigstore
 use Rattle.engine_terms.specs.declared.error.OciDistributionError.{OciDistributionError}
-use Rattle.engine_terms.specs.Error.{is_memory as engine_is_memory, Matches as SaysEngine}
+use Rattle.json_values.specs.Refusals.{Matches}
+use Rattle.engine_terms.specs.Error.{is_memory as engine_is_memory}
 use Rattle.registry_calls.specs.declared.error_context.Called.{Called}
 use Rattle.cosign_rows.specs.declared.refusal.PullRefusal.{PullRefusal}
-use Rattle.cosign_rows.specs.Refusal.{is_memory as of_refusal, refused_as, Matches as SaysWhole}
+use Rattle.cosign_rows.specs.Refusal.{is_memory as of_refusal, refused_as}
 use Rattle.cosign_chain.specs.declared.image.VerifiedImage.{VerifiedImage}
 use Rattle.cosign_rows.specs.Image.{with_image}
 use Rattle.cosign_rows.specs.References.{signature_tag, tag_reference}
@@ -29,7 +30,7 @@ use Rattle.cosign_rows.specs.declared.refusal.PullRefusal.TheVariants as refusal
 use Rattle.oci_names.specs.declared.reference.Reference.{Reference}
 use Rattle.oci_names.specs.Reference.{registry_of, repository_of, mirror_of, tag_of, digest_of}
 use Rattle.registry_calls.specs.declared.reference.OciReference.{OciReference}
-use Rattle.registry_calls.specs.Error.{is_memory, Matches}
+use Rattle.registry_calls.specs.Error.{is_memory}
 use Rattle.registry_calls.specs.ErrorContext.{with_error_context}
 use Rattle.registry_calls.specs.Clients.{Kept, Client, ClientMeets}
 
@@ -58,7 +59,7 @@ pub failed : {A E : Type 0} {om : E → Bool} {s : Settings} {c : Client} {link 
 failed {om = om} {c = c} {link = link} {x = x} h = record { made = λ at. (at, Meets-err om link c.kept x h) }
 
 -- a step without a call
-pub said : {A : Type 0} {s : Settings} (r : Result A SigstoreError) {w : Result A SigstoreError} {c : Client} {link : Link} → Matches r w → ClientMeets is_memory s (Done w) c c link link r
+pub said : {A : Type 0} {s : Settings} (r : Result A SigstoreError) {w : Result A SigstoreError} {c : Client} {link : Link} → Matches is_memory r w → ClientMeets is_memory s (Done w) c c link link r
 said (Ok a) h = rw h done
 said {A} (Err e) {w = w} {c = c} {link = link} h = record { made = λ at. (at, record { outcome = refusing (is_memory e) h }) } where
   refusing : (b : Bool) → MatchBool b (Unit {0}) (w ≡ Err e) → MatchBool b (PerformsPrefix {A = Result A SigstoreError} (Done w) link link c.kept c.kept) (Performs (Done w) link link c.kept c.kept (Err e))
@@ -97,9 +98,9 @@ wants (Err e) = is_memory e
 
 -- a call that was refused, and a step without a call on its error; out of memory stays out of memory
 pub said_refusal : {A B : Type 0} {s : Settings} {p : Proto Kept (Result A SigstoreError)} (f : Result A SigstoreError → Proto Kept (Result B SigstoreError)) {c d : Client} {old new : Link} {e : SigstoreError} {w t : Result B SigstoreError}
-    → f (Err e) ≡ Done w → (is_memory e ≡ true → w ≡ Err e) → ClientMeets is_memory s p c d old new (Err e) → Matches t w → ClientMeets is_memory s (bind p f) c d old new t
+    → f (Err e) ≡ Done w → (is_memory e ≡ true → w ≡ Err e) → ClientMeets is_memory s p c d old new (Err e) → Matches is_memory t w → ClientMeets is_memory s (bind p f) c d old new t
 said_refusal {A} {B} {s} {p} f {c} {d} {old} {new} {e} {w} {t} is stays first says = by_memory (is_memory e) refl where
-  wanted : (t : Result B SigstoreError) → is_memory e ≡ true → Matches t (Err e) → ClientMeets is_memory s (bind p f) c d old new t
+  wanted : (t : Result B SigstoreError) → is_memory e ≡ true → Matches is_memory t (Err e) → ClientMeets is_memory s (bind p f) c d old new t
   wanted (Ok b) memory h = absurd (cc (sym memory ∙ ap wants h))
   wanted (Err y) memory h = by_cause (is_memory y) refl h where
     by_cause : (b : Bool) → is_memory y ≡ b → MatchBool b (Unit {0}) (◌≡◌ {A = Result B SigstoreError} (Err e) (Err y)) → ClientMeets is_memory s (bind p f) c d old new (Err y)
@@ -112,13 +113,13 @@ said_refusal {A} {B} {s} {p} f {c} {d} {old} {new} {e} {w} {t} is stays first sa
 
 -- a result or an error, and a step without a call on it; out of memory stays out of memory
 pub said_of : {A B : Type 0} {s : Settings} {p : Proto Kept (Result A SigstoreError)} (f : Result A SigstoreError → Result B SigstoreError) {c d : Client} {old new : Link} (r : Result A SigstoreError) {t : Result B SigstoreError}
-    → ((e : SigstoreError) → is_memory e ≡ true → f (Err e) ≡ Err e) → ClientMeets is_memory s p c d old new r → Matches t (f r) → ClientMeets is_memory s (bind p (λ x. Done (f x))) c d old new t
+    → ((e : SigstoreError) → is_memory e ≡ true → f (Err e) ≡ Err e) → ClientMeets is_memory s p c d old new r → Matches is_memory t (f r) → ClientMeets is_memory s (bind p (λ x. Done (f x))) c d old new t
 said_of f (Ok a) {t = t} stays first says = caught (λ x. Done (f x)) first (said t says)
 said_of f (Err e) stays first says = said_refusal (λ x. Done (f x)) refl (stays e) first says
 
 -- a step without a call that depends on the client's settings
-pub said_at : {A : Type 0} {s : Settings} (w : Settings → Result A SigstoreError) (r : Result A SigstoreError) {c : Client} {link : Link} → Matches r (w c.settings) → ClientMeets is_memory s (Done (w s)) c c link link r
-said_at {s = s} w r {c = c} {link = link} h = record { made = λ at. (said r (subst (λ t. Matches r (w t)) at h)).made at }
+pub said_at : {A : Type 0} {s : Settings} (w : Settings → Result A SigstoreError) (r : Result A SigstoreError) {c : Client} {link : Link} → Matches is_memory r (w c.settings) → ClientMeets is_memory s (Done (w s)) c c link link r
+said_at {s = s} w r {c = c} {link = link} h = record { made = λ at. (said r (subst (λ t. Matches is_memory r (w t)) at h)).made at }
 
 -- an out-of-memory error holds no image
 pub with_stays : {A : Type 0} (text : List ℕ) (e : SigstoreError) → is_memory e ≡ true → (let r : Result A SigstoreError = Err e in with_image text r) ≡ Err e
@@ -126,16 +127,17 @@ with_stays text (sigstore.OciReferenceNotValidError t) h = absurd (cc h)
 with_stays text (sigstore.RegistryFetchManifestError t e) h = absurd (cc h)
 with_stays text (sigstore.RegistryPullError t e) h = absurd (cc h)
 with_stays text (sigstore.RegistryPullManifestError t e) h = absurd (cc h)
+with_stays text (sigstore.RegistryPushError t e) h = absurd (cc h)
 with_stays text sigstore.WantOfMemory h = refl
 
 -- the same, if the row continues with a result only
 pub said_next : {A B : Type 0} {s : Settings} {p : Proto Kept (Result A SigstoreError)} (f : A → B) (g : Result A SigstoreError → Result B SigstoreError) {c d : Client} {old new : Link} (r : Result A SigstoreError) {t : Result B SigstoreError}
-    → ((a : A) → g (Ok a) ≡ Ok (f a)) → ((e : SigstoreError) → g (Err e) ≡ Err e) → ClientMeets is_memory s p c d old new r → Matches t (g r) → ClientMeets is_memory s (p >>= (λ a. Done (Ok (f a)))) c d old new t
-said_next f g (Ok a) {t = t} works stays first says = caught (unless_refused (λ a. Done (Ok (f a)))) first (said t (subst (Matches t) (works a) says))
-said_next f g (Err e) {t = t} works stays first says = said_refusal (unless_refused (λ a. Done (Ok (f a)))) refl (λ is. refl) first (subst (Matches t) (stays e) says)
+    → ((a : A) → g (Ok a) ≡ Ok (f a)) → ((e : SigstoreError) → g (Err e) ≡ Err e) → ClientMeets is_memory s p c d old new r → Matches is_memory t (g r) → ClientMeets is_memory s (p >>= (λ a. Done (Ok (f a)))) c d old new t
+said_next f g (Ok a) {t = t} works stays first says = caught (unless_refused (λ a. Done (Ok (f a)))) first (said t (subst (Matches is_memory t) (works a) says))
+said_next f g (Err e) {t = t} works stays first says = said_refusal (unless_refused (λ a. Done (Ok (f a)))) refl (λ is. refl) first (subst (Matches is_memory t) (stays e) says)
 
 -- a step of the whole pull without a call
-pub said_whole : {A : Type 0} {s : Settings} (r : Result A PullRefusal) {w : Result A PullRefusal} {c : Client} {link : Link} → SaysWhole r w → ClientMeets of_refusal s (Done w) c c link link r
+pub said_whole : {A : Type 0} {s : Settings} (r : Result A PullRefusal) {w : Result A PullRefusal} {c : Client} {link : Link} → Matches of_refusal r w → ClientMeets of_refusal s (Done w) c c link link r
 said_whole (Ok a) h = rw h done
 said_whole {A} (Err e) {w = w} {c = c} {link = link} h = record { made = λ at. (at, record { outcome = refusing (of_refusal e) h }) } where
   refusing : (b : Bool) → MatchBool b (Unit {0}) (w ≡ Err e) → MatchBool b (PerformsPrefix {A = Result A PullRefusal} (Done w) link link c.kept c.kept) (Performs (Done w) link link c.kept c.kept (Err e))
@@ -148,6 +150,7 @@ memory_as (sigstore.OciReferenceNotValidError reference) h = absurd (cc h)
 memory_as (sigstore.RegistryFetchManifestError image error) h = absurd (cc h)
 memory_as (sigstore.RegistryPullError image error) h = absurd (cc h)
 memory_as (sigstore.RegistryPullManifestError image error) h = absurd (cc h)
+memory_as (sigstore.RegistryPushError image error) h = absurd (cc h)
 
 other_as : (x : SigstoreError) → is_memory x ≡ false → of_refusal (refused_as x) ≡ false
 other_as sigstore.WantOfMemory h = absurd (cc h)
@@ -155,6 +158,7 @@ other_as (sigstore.OciReferenceNotValidError reference) h = refl
 other_as (sigstore.RegistryFetchManifestError image error) h = refl
 other_as (sigstore.RegistryPullError image error) h = refl
 other_as (sigstore.RegistryPullManifestError image error) h = refl
+other_as (sigstore.RegistryPushError image error) h = refl
 
 -- a part that was refused, with its error converted to the pull's
 pub refused_whole : {A B : Type 0} {s : Settings} {p : Proto Kept (Result A SigstoreError)} (f : Result A SigstoreError → Proto Kept (Result B PullRefusal)) {c d : Client} {old new : Link} {x : SigstoreError}
@@ -165,21 +169,21 @@ refused_whole {A} {B} {s} {p} f {c} {d} {old} {new} {x} is first = by_memory (is
   by_memory false other = caught_refusal f first other (rw is (failed (other_as x other)))
 
 -- a step of the engine without a request, with context
-pub in_words_said : {A : Type 0} (called : Called) (text : List ℕ) (r w : Result A OciDistributionError) (t : Result A SigstoreError) → SaysEngine r w → Matches t (with_error_context called text r) → Matches t (with_error_context called text w)
+pub in_words_said : {A : Type 0} (called : Called) (text : List ℕ) (r w : Result A OciDistributionError) (t : Result A SigstoreError) → Matches engine_is_memory r w → Matches is_memory t (with_error_context called text r) → Matches is_memory t (with_error_context called text w)
 in_words_said called text (Ok a) w t h says = rw h says
 in_words_said {A} called text (Err e) w t h says = by_memory (engine_is_memory e) refl h where
-  any : (t : Result A SigstoreError) → Matches t (Err sigstore.WantOfMemory) → Matches t (with_error_context called text w)
+  any : (t : Result A SigstoreError) → Matches is_memory t (Err sigstore.WantOfMemory) → Matches is_memory t (with_error_context called text w)
   any (Ok a) h = absurd (true_false (ap wants h))
   any (Err x) h = by_cause (is_memory x) refl h where
     by_cause : (b : Bool) → is_memory x ≡ b → MatchBool b (Unit {0}) (◌≡◌ {A = Result A SigstoreError} (Err sigstore.WantOfMemory) (Err x)) → MatchBool b (Unit {0}) (with_error_context called text w ≡ Err x)
     by_cause true is h = tt
     by_cause false is h = absurd (true_false (ap wants h ∙ is))
 
-  by_memory : (b : Bool) → engine_is_memory e ≡ b → MatchBool b (Unit {0}) (w ≡ Err e) → Matches t (with_error_context called text w)
+  by_memory : (b : Bool) → engine_is_memory e ≡ b → MatchBool b (Unit {0}) (w ≡ Err e) → Matches is_memory t (with_error_context called text w)
   by_memory true is h = any t (rw is at says)
   by_memory false is h = rw h says
 
-pub worded_said : {A : Type 0} {s : Settings} (called : Called) (text : List ℕ) (r w : Result A OciDistributionError) (t : Result A SigstoreError) {c : Client} {link : Link} → SaysEngine r w → Matches t (with_error_context called text r) → ClientMeets is_memory s (Done (with_error_context called text w)) c c link link t
+pub worded_said : {A : Type 0} {s : Settings} (called : Called) (text : List ℕ) (r w : Result A OciDistributionError) (t : Result A SigstoreError) {c : Client} {link : Link} → Matches engine_is_memory r w → Matches is_memory t (with_error_context called text r) → ClientMeets is_memory s (Done (with_error_context called text w)) c c link link t
 worded_said called text r w t h says = said t (in_words_said called text r w t h says)
 
 -- memory ran out before any request was sent
@@ -203,7 +207,7 @@ stood_then stood (Ok pulled) first is = rw is (and_then _ (part_answered first) 
 stood_then stood (Err e) first is = rw is (record { made = λ at. let one = (part_refused first).made at in (one.0, Meets-refused _ one.1) })
 
 -- a step that returns exactly this result
-pub says_same : {A : Type 0} (r w : Result A PullRefusal) → r ≡ w → SaysWhole r w
+pub says_same : {A : Type 0} (r w : Result A PullRefusal) → r ≡ w → Matches of_refusal r w
 says_same (Ok a) w is = sym is
 says_same (Err e) w is = by_memory (of_refusal e) where
   by_memory : (b : Bool) → MatchBool b (Unit {0}) (w ≡ Err e)

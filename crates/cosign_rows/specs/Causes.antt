@@ -35,6 +35,7 @@ SearchCause s image a start c end (sigstore.RegistryFetchManifestError name e) =
     RanBetween (digest_call s image a) start c end (Err (sigstore.RegistryFetchManifestError name e))
 SearchCause s image a start c end (sigstore.RegistryPullError name e) = ⊥
 SearchCause s image a start c end (sigstore.RegistryPullManifestError name e) = ⊥
+SearchCause s image a start c end (sigstore.RegistryPushError name e) = ⊥
 SearchCause s image a start c end sigstore.WantOfMemory = Unit {0}
 
 -- the image's own reference does not round-trip, and no request was sent

@@ -14,7 +14,7 @@ use Rattle.oci_manifests.specs.declared.blob.ImageLayer.{ImageLayer}
 use Rattle.oci_protocol.specs.Proto.{Done, bind, ◌>>=◌, ◌>>◌}
 use Rattle.engine_terms.specs.Contexts.{Context}
 use Rattle.engine_terms.specs.declared.error.OciDistributionError.{OciDistributionError}
-use Rattle.engine_terms.specs.Error.{◌>>=◌ as ◌before◌, ◌>>◌ as ◌and◌}
+use Rattle.json_values.specs.Refusals.{◌>>=◌ as ◌before◌, ◌>>◌ as ◌and◌}
 use Rattle.engine_answers.specs.Answers.{or_digest_error}
 use Rattle.engine_requests.specs.Requests.{manifest_types}
 use Rattle.engine_answers.specs.Documents.{document_read}

@@ -31,6 +31,7 @@ in_refusal (sigstore.OciReferenceNotValidError text) = false
 in_refusal (sigstore.RegistryFetchManifestError image e) = in_engine e
 in_refusal (sigstore.RegistryPullError image e) = in_engine e
 in_refusal (sigstore.RegistryPullManifestError image e) = in_engine e
+in_refusal (sigstore.RegistryPushError image e) = in_engine e
 in_refusal sigstore.WantOfMemory = true
 
 abbrev pub in_cause : SkipCause → Bool
@@ -58,6 +59,7 @@ is_refused_fault (sigstore.OciReferenceNotValidError text) = false
 is_refused_fault (sigstore.RegistryFetchManifestError image e) = is_engine_fault e
 is_refused_fault (sigstore.RegistryPullError image e) = is_engine_fault e
 is_refused_fault (sigstore.RegistryPullManifestError image e) = is_engine_fault e
+is_refused_fault (sigstore.RegistryPushError image e) = is_engine_fault e
 is_refused_fault sigstore.WantOfMemory = false
 
 abbrev pub is_cause_fault : SkipCause → Bool

@@ -1,7 +1,8 @@
 //! The references that the search and the pull request, in the image's repository.
 ghost use Rattle.std.specs.Prelude.{◌≡◌, IfOk, string_bytes};
 ghost use Rattle.registry_calls.specs.Direct.{reference_in};
-ghost use Rattle.registry_calls.specs.Error.{Matches};
+ghost use Rattle.json_values.specs.Refusals.{Matches};
+ghost use Rattle.registry_calls.specs.Error.{is_memory};
 ghost use Rattle.cosign_rows.specs.References.{with_dashes, signature_tag, tag_reference};
 ghost use Rattle.cosign_rows.specs.References.{digest_reference, reading_back};
 
@@ -75,7 +76,7 @@ pub fn digest_reference(
 
 /// Succeeds if the reference round-trips. Returns `OciReferenceNotValidError` with its text if it does not.
 pub fn reading_back(alloc: Global, image: &Reference) -> Result<(), SigstoreError>
-    ensures { Matches result (reading_back image.now) }
+    ensures { Matches is_memory result (reading_back image.now) }
 {
     let reads_back = image.reads_back(alloc)?;
     if reads_back {

@@ -167,6 +167,9 @@ impl From<SigstoreError> for PullRefusal {
             SigstoreError::RegistryPullManifestError { image, error } => {
                 PullRefusal::RegistryPullError { image, error }
             }
+            SigstoreError::RegistryPushError { image, error } => {
+                PullRefusal::RegistryPullError { image, error }
+            }
             SigstoreError::WantOfMemory => PullRefusal::WantOfMemory,
         }
     }

@@ -9,11 +9,11 @@ use Rattle.base64.specs.Engines.{standard}
 use Rattle.base64.specs.GeneralPurpose.{decoded_of}
 use Rattle.json_values.specs.Places.{by_bytes}
 use Rattle.oci_digests.specs.Names.{names, Names}
-use Rattle.oci_digests.specs.declared.digester.Algorithm.TheVariants.{Sha256}
+use Rattle.oci_names.specs.declared.algorithm.Algorithm.TheVariants.{Sha256}
 use Rattle.oci_digests.proofs.Equal.{named}
 use Rattle.cosign_layers.specs.Checks.{Input, input, unless, content_checked, signature_checked, entry_checked, certificate_checked, layer_read, layer_with}
 use Rattle.cosign_parts.specs.Payload.{content_of}
-use Rattle.cosign_layers.specs.Rejection.{◌>>=◌}
+use Rattle.json_values.specs.Refusals.{◌>>=◌}
 use Rattle.cosign_parts.specs.Shown.{Notes, shown, is_about, payload_shown, noted_entry, noted_certificate}
 use Rattle.cosign_parts.specs.Trust.{Trust, knows_no_log}
 use Rattle.cosign_parts.specs.declared.layer.LayerKind.TheVariants as kinds

@@ -1,11 +1,11 @@
 -- The lengths of the image's texts.
-use Rattle.std.proofs.Common.{◌≡◌, ◌<◌, ◌≤◌, ◌+◌, ◌*◌, ◌^◌, ℕ, zero, suc, List, [], ◌∷◌, ◌++◌, length, map, flat_map, codes, refl, sym, ap, subst, ◌∙◌, arith, length-append}
+use Rattle.std.proofs.Common.{◌≡◌, ◌<◌, ◌≤◌, ◌+◌, ◌*◌, ◌^◌, ℕ, zero, suc, List, [], ◌∷◌, ◌++◌, length, flat_map, codes, refl, arith, length-append}
 use Rattle.std.specs.Prelude.{decimal}
-use Rattle.std.specs.List.{concat, repeat}
+use Rattle.std.specs.List.{repeat}
 use Rattle.std.proofs.lemmas.Fmt.{length-decimal-le}
-use Rattle.oci_digests.specs.declared.digester.Algorithm.TheVariants.{Sha256}
-use Rattle.shelf_laws.proofs.References.{digest_length}
-use Rattle.generated_image.specs.Texts.{sha256_text, thousandfold, layer_content, layer_contents, layer_type, descriptor_text, descriptor_of, manifest_around, joined, payload_text}
+use Rattle.oci_names.specs.declared.algorithm.Algorithm.TheVariants.{Sha256}
+use Rattle.oci_digests.proofs.Algorithms.{digest_length}
+use Rattle.generated_image.specs.Texts.{sha256_text, thousandfold, layer_content, layer_contents, descriptor_text, joined}
 use Rattle.generated_image.proofs.Manifests.{Each}
 
 pub both_within : (xs ys : List ℕ) (a b : ℕ) → length xs ≤ a → length ys ≤ b → length (xs ++ ys) ≤ a + b

@@ -1,10 +1,9 @@
 -- The texts of the two manifests parse as manifests.
 use Rattle.std.proofs.Common.{◌≡◌, ◌<◌, ◌≤◌, ◌^◌, ◌==◌, ◌||◌, ◌&&◌, ℕ, Bool, true, false, List, [], ◌∷◌, ◌++◌, length, map, flat_map, codes, Some, Ok, IsUtf8, refl, sym, ap, subst, ◌∙◌, arith}
 use Rattle.std.specs.Prelude.{decimal, nat_le}
-use Rattle.std.specs.List.{concat}
 use Rattle.json.specs.Print.{escape, escape_byte}
 use Rattle.json.proofs.Printed.Decimals.{IsNumber-decimal}
-use Rattle.serde_json.specs.Data.{Data, Items, no_members}
+use Rattle.serde_json.specs.Data.{Data}
 use Rattle.serde_json.specs.Written.{compact_text, members_text}
 use Rattle.json_values.specs.JsonText.{json_of}
 use Rattle.oci_digests.specs.Checks.{is_header_text}
@@ -12,11 +11,11 @@ use Rattle.oci_descriptors.specs.declared.descriptor.OciDescriptor.{OciDescripto
 use Rattle.oci_manifests.specs.declared.document.OciManifest.TheVariants.{Image}
 use Rattle.oci_manifests.specs.declared.manifest.OciImageManifest.{OciImageManifest}
 use Rattle.engine_answers.specs.Documents.{document_read}
-use Rattle.shelf_laws.proofs.DigestTexts.{all_append}
-use Rattle.generated_image.specs.Texts.{sha256_text, layer_contents, layer_type, payload_type, config_type, config_content, descriptor_text, descriptor_of, manifest_around, joined, plain_manifest, image_text, payload_text, signature_note, signatures_text}
-use Rattle.generated_image.proofs.Lengths.{layers_within, digest_within}
+use Rattle.oci_digests.proofs.HexDigits.{all_append}
+use Rattle.generated_image.specs.Texts.{sha256_text, layer_contents, layer_type, payload_type, config_type, config_content, descriptor_of, joined, plain_manifest, image_text, signature_note, signatures_text}
+use Rattle.generated_image.proofs.Lengths.{layers_within}
 use Rattle.generated_image.proofs.Manifests.{Each, more_of, sorted_descriptor, sorted_manifest, described, manifest_with, manifest_reads, manifest_read, descriptor_reads, descriptor_numbers, descriptor_shallow, descriptor_plain, descriptor_is, items_read, items_numbers, items_shallow, items_plain, items_are}
-use Rattle.generated_image.proofs.Plain.{AllShow, concat_shows, digest_shows, decimal_shows, digest_stays, shown_utf8}
+use Rattle.generated_image.proofs.Plain.{concat_shows, digest_shows, decimal_shows, digest_stays, shown_utf8}
 use Rattle.generated_image.proofs.PlainTexts.{json_compact}
 use Rattle.generated_image.proofs.ImageTexts.{descriptor_data, items, manifest_data, descriptor_spelled, joined_spelled, manifest_spelled}
 

@@ -25,7 +25,7 @@ use Rattle.oci_manifests.specs.declared.document.OciManifest.TheVariants.{Image}
 use Rattle.oci_manifests.specs.declared.index.OciImageIndex.{OciImageIndex}
 use Rattle.oci_manifests.specs.declared.manifest.OciImageManifest.{OciImageManifest}
 use Rattle.engine_answers.specs.Documents.{document_read, document_from, plain_of, version_checked, tables_read, or_unread}
-use Rattle.engine_terms.specs.Error.{◌>>◌ as ◌and_then◌}
+use Rattle.json_values.specs.Refusals.{◌>>◌ as ◌and_then◌}
 use Rattle.engine_terms.specs.declared.error.OciDistributionError.{OciDistributionError}
 use Rattle.engine_terms.specs.declared.error.OciDistributionError.TheVariants as refusal
 use Rattle.generated_image.proofs.ImageTexts.{descriptor_data, items, manifest_data}

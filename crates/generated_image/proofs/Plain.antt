@@ -1,17 +1,18 @@
 -- Texts that need no escapes and are UTF-8.
-use Rattle.std.proofs.Common.{◌≡◌, ◌≢◌, ◌&&◌, ◌||◌, ◌==◌, ◌<◌, ◌≤◌, ◌^◌, ℕ, Bool, true, false, List, [], ◌∷◌, ◌++◌, IsUtf8, refl, sym, ap, ◌∙◌, arith}
-use Rattle.std.specs.Prelude.{nat_lt, nat_le, codes, decimal}
+use Rattle.std.proofs.Common.{◌≡◌, ◌&&◌, ◌||◌, ◌==◌, ◌<◌, ◌≤◌, ◌^◌, ℕ, Bool, true, List, [], ◌∷◌, ◌++◌, IsUtf8, refl, sym, ap, ◌∙◌, arith}
+use Rattle.std.specs.Prelude.{nat_le, decimal}
 use Rattle.std.specs.List.{list_all, concat}
 use Rattle.std.proofs.lemmas.Bool.Decides.{nat_tests}
 use Rattle.std.proofs.lemmas.Fmt.{digits_decimal}
 use Rattle.json.specs.Print.{escape, escape_byte}
 use Rattle.json.proofs.Printed.Strings.{escape_byte_plain}
 use Rattle.oci_digests.specs.Checks.{is_header_text}
-use Rattle.oci_digests.specs.declared.digester.Algorithm.TheVariants.{Sha256}
+use Rattle.oci_names.specs.declared.algorithm.Algorithm.TheVariants.{Sha256}
 use Rattle.oci_digests.proofs.HeaderText.{is_text}
-use Rattle.shelf_laws.proofs.DigestTexts.{and_left, and_right, and_both, all_append, all_more, digest_all, is_lower_digit}
-use Rattle.engine_streams.specs.Head.{is_digit}
-use Rattle.engine_streams.proofs.Decimals.{numeral}
+use Rattle.oci_digests.proofs.HexDigits.{and_left, and_right, all_append, all_more, is_lower_digit}
+use Rattle.oci_digests.proofs.Algorithms.{digest_all}
+use Rattle.json_values.specs.Decimals.{is_digit}
+use Rattle.json_values.proofs.Decimals.{numeral}
 use Rattle.generated_image.specs.Texts.{sha256_text}
 
 -- ---- bytes that need no escape in a string

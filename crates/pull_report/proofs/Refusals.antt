@@ -18,10 +18,12 @@ module _ (error : OciDistributionError) (name bytes : List ℕ) (named : name �
 
   pub with_document : (error ≡ refusal.AmbiguousManifest bytes) ⊎ ((error ≡ refusal.ConfigConversionError bytes)
       ⊎ ((error ≡ refusal.HeaderValueError bytes)
-      ⊎ ((error ≡ refusal.ManifestParsingError bytes) ⊎ (error ≡ refusal.VersionedParsingError bytes))))
+      ⊎ ((error ≡ refusal.JsonError bytes) ⊎ ((error ≡ refusal.ManifestEncodingError bytes)
+      ⊎ ((error ≡ refusal.ManifestParsingError bytes) ⊎ (error ≡ refusal.VersionedParsingError bytes))))))
       → Counts bytes name error
   with_document is =
-      ⊎_elim (same _ refl) (⊎_elim (same _ refl) (⊎_elim (same _ refl) (⊎_elim (same _ refl) (same _ refl)))) is
+      ⊎_elim (same _ refl) (⊎_elim (same _ refl) (⊎_elim (same _ refl) (⊎_elim (same _ refl)
+      (⊎_elim (same _ refl) (⊎_elim (same _ refl) (same _ refl)))))) is
 
   pub with_body : (error ≡ refusal.AuthenticationFailure bytes) ⊎ (error ≡ refusal.RegistryTokenDecodeError bytes)
       → Counts bytes name error

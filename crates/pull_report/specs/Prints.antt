@@ -73,6 +73,9 @@ distribution_print (distribution.ImageManifestNotFoundError digest) =
     spaced (codes "ImageManifestNotFoundError" ∷ quoted_text digest ∷ [])
 distribution_print (distribution.IncompatibleLayerMediaTypeError media_type) =
     spaced (codes "IncompatibleLayerMediaTypeError" ∷ quoted_text media_type ∷ [])
+distribution_print (distribution.JsonError body) = spaced (codes "JsonError" ∷ bytes_print body ∷ [])
+distribution_print (distribution.ManifestEncodingError body) =
+    spaced (codes "ManifestEncodingError" ∷ bytes_print body ∷ [])
 distribution_print (distribution.ManifestParsingError document) =
     spaced (codes "ManifestParsingError" ∷ bytes_print document ∷ [])
 distribution_print distribution.PullNoLayersError = codes "PullNoLayersError"
@@ -110,6 +113,8 @@ sigstore_print (sigstore.RegistryPullError image error) =
     spaced (codes "RegistryPullError" ∷ quoted_text image ∷ distribution_print error ∷ [])
 sigstore_print (sigstore.RegistryPullManifestError image error) =
     spaced (codes "RegistryPullManifestError" ∷ quoted_text image ∷ distribution_print error ∷ [])
+sigstore_print (sigstore.RegistryPushError image error) =
+    spaced (codes "RegistryPushError" ∷ quoted_text image ∷ distribution_print error ∷ [])
 sigstore_print sigstore.WantOfMemory = codes "WantOfMemory"
 
 abbrev pub part_print : LayerPart → List ℕ

@@ -82,6 +82,8 @@ impl Printed for OciDistributionError {
             Self::AmbiguousManifest(bytes)
             | Self::ConfigConversionError(bytes)
             | Self::HeaderValueError(bytes)
+            | Self::JsonError(bytes)
+            | Self::ManifestEncodingError(bytes)
             | Self::ManifestParsingError(bytes)
             | Self::VersionedParsingError(bytes) => print_row(alloc, out, name, row![bytes]),
             Self::AuthenticationFailure(body) | Self::RegistryTokenDecodeError(body) => {
@@ -136,6 +138,9 @@ impl Printed for SigstoreError {
             }
             Self::RegistryPullManifestError { image, error } => {
                 print_row(alloc, out, "RegistryPullManifestError", row![image, error])
+            }
+            Self::RegistryPushError { image, error } => {
+                print_row(alloc, out, "RegistryPushError", row![image, error])
             }
             Self::WantOfMemory => word(out, "WantOfMemory"),
         }

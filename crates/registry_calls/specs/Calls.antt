@@ -4,8 +4,11 @@ use Rattle.oci_names.specs.declared.reference.Reference.{Reference}
 use Rattle.oci_names.specs.Reference.{whole_text, reads_back}
 use Rattle.oci_auth.specs.declared.auth.RegistryAuth.{RegistryAuth}
 use Rattle.oci_auth.specs.declared.token_type.RegistryOperation.TheVariants as operation
+use Rattle.oci_manifests.specs.declared.blob.Config.{Config}
+use Rattle.oci_manifests.specs.declared.blob.ImageLayer.{ImageLayer}
 use Rattle.oci_manifests.specs.declared.document.OciManifest.{OciManifest}
 use Rattle.oci_manifests.specs.declared.index.OciImageIndex.{OciImageIndex}
+use Rattle.oci_manifests.specs.declared.manifest.OciImageManifest.{OciImageManifest}
 use Rattle.oci_protocol.specs.Proto.{Done, bind, ◌>>=◌, ◌>>◌}
 use Rattle.oci_protocol.specs.Lift.{lifted}
 use Rattle.engine_terms.specs.Contexts.{Context}
@@ -15,9 +18,11 @@ use Rattle.engine_rows.specs.Pulls.{fetch_manifest_digest, pull_manifest, pull_m
 use Rattle.engine_rows.specs.Image.{pull}
 use Rattle.engine_rows.specs.Referrers.{pull_referrers}
 use Rattle.engine_rows.specs.declared.image.ImageData.{ImageData}
+use Rattle.engine_publish.specs.Calls.{push}
+use Rattle.engine_publish.specs.declared.images.PushResponse.{PushResponse}
 use Rattle.registry_cache.specs.Keys.{manifest_key, pull_key, referrers_key}
 use Rattle.registry_calls.specs.declared.error_context.Called.{Called}
-use Rattle.registry_calls.specs.declared.error_context.Called.TheVariants.{FetchManifest, Pull, PullManifest}
+use Rattle.registry_calls.specs.declared.error_context.Called.TheVariants.{FetchManifest, Pull, PullManifest, Push}
 use Rattle.registry_calls.specs.ErrorContext.{with_error_context}
 use Rattle.registry_calls.specs.Caching.{cached}
 use Rattle.registry_calls.specs.Clients.{Plain, Row}
@@ -44,6 +49,10 @@ document_made s image a types = in_words Pull image (pull_manifest_raw s image a
 unfoldable pub blob_made : Context → Reference → Layer → Plain (List ℕ)
 blob_made s image layer = in_words Pull image (held_blob s image layer)
 
+unfoldable pub push_made : Context → Reference → List ImageLayer → Config → RegistryAuth → Option OciImageManifest
+    → Plain PushResponse
+push_made s image layers config a manifest = in_words Push image (push s image layers config a manifest)
+
 -- a token is obtained first
 unfoldable pub referrers_made : Context → Reference → RegistryAuth → Option (List ℕ) → Plain OciImageIndex
 referrers_made s image a kind = do
@@ -68,9 +77,13 @@ unfoldable pub referrers_call : Context → Reference → RegistryAuth → Optio
 referrers_call s image a kind =
     cached (reads_back image) referrers (referrers_key image a kind) s.moment (referrers_made s image a kind)
 
--- documents as bytes and blobs are never cached
+-- documents as bytes and blobs are never cached, and nothing of a push is
 unfoldable pub document_call : Context → Reference → RegistryAuth → List ℕ → Row (List ℕ × List ℕ)
 document_call s image a types = lifted (document_made s image a types)
 
 unfoldable pub blob_call : Context → Reference → Layer → Row (List ℕ)
 blob_call s image layer = lifted (blob_made s image layer)
+
+unfoldable pub push_call : Context → Reference → List ImageLayer → Config → RegistryAuth → Option OciImageManifest
+    → Row PushResponse
+push_call s image layers config a manifest = lifted (push_made s image layers config a manifest)

@@ -6,7 +6,8 @@ use Rattle.oci_auth.specs.declared.auth.RegistryAuth.{RegistryAuth}
 use Rattle.oci_protocol.specs.Runs.{Told}
 use Rattle.engine_terms.specs.Contexts.{within}
 use Rattle.engine_rows.specs.Confined.{Within}
-use Rattle.engine_rows.specs.Held.{pulling}
+use Rattle.oci_auth.specs.declared.token_type.RegistryOperation.TheVariants.{Push}
+use Rattle.engine_rows.specs.Held.{asking, pulling}
 use Rattle.engine_rows.specs.ReferrersCauses.{WithinReferrers}
 use Rattle.registry_calls.specs.Clients.{Client}
 
@@ -24,4 +25,11 @@ abbrev pub StaysWithTag : Client → Client → ℕ → Reference → Option Reg
 StaysWithTag before after moment image handed old new =
     Told
     (WithinReferrers (pulling before.kept.0 (within before.settings moment) image handed) before.settings after.kept.0)
+    old new
+
+-- The same for a call that pushes: a token that is kept is kept for pushes.
+abbrev pub StaysForPush : Client → Client → ℕ → Reference → Option RegistryAuth → Link → Link → Type 0
+StaysForPush before after moment image handed old new =
+    Told
+    (Within (asking before.kept.0 (within before.settings moment) image Push handed) before.settings after.kept.0)
     old new

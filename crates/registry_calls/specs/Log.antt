@@ -21,7 +21,8 @@ use Rattle.registry_cache.specs.Caching.{Cache, known}
 use Rattle.registry_cache.specs.KeptCalls.{digests, manifests, images, referrers}
 use Rattle.registry_calls.specs.Calls.{digest_made, manifest_made, image_made, referrers_made}
 use Rattle.registry_calls.specs.Clients.{Client, Plain}
-use Rattle.registry_calls.specs.Error.{Matches}
+use Rattle.json_values.specs.Refusals.{Matches}
+use Rattle.registry_calls.specs.Error.{is_memory}
 use Rattle.registry_calls.specs.declared.error.SigstoreError.{SigstoreError}
 
 -- a call whose response may be cached, with its arguments
@@ -55,7 +56,7 @@ pub record Recalled {A : Type 0} (cache : Cache A) (call : Call) (now : ℕ) (be
     (r : Result A SigstoreError) : Type 0 where
   pub recalled : (answer : A) → reads_back (image_called call) ≡ true
       → known cache (key_called call) now before.kept.1 ≡ Some answer
-      → Matches r (Ok answer) × (new ≡ old) × (after ≡ before)
+      → Matches is_memory r (Ok answer) × (new ≡ old) × (after ≡ before)
 
 -- a result as it is cached
 abbrev pub answered : {A : Type 0} → Cache A → Result A SigstoreError → Result Answer SigstoreError

@@ -6,19 +6,21 @@ ghost use Rattle.engine_requests.specs.Requests.{listed};
 ghost use Rattle.engine_requests.specs.Sources.{described};
 ghost use Rattle.registry_cache.specs.KeptCalls.{digests, manifests, images, referrers};
 ghost use Rattle.registry_calls.specs.Calls.{digest_call, manifest_call, image_call, document_call, blob_call};
-ghost use Rattle.registry_calls.specs.Calls.{referrers_call};
+ghost use Rattle.registry_calls.specs.Calls.{referrers_call, push_call};
 ghost use Rattle.registry_calls.specs.Clients.{Client, ClientMeets, KeepsAnswers, RefusalKeeps};
-ghost use Rattle.registry_calls.specs.Confinement.{StaysConfined, StaysWithTag};
-ghost use Rattle.registry_calls.specs.Error.{is_memory, FaultCounted, NoSinkFault};
+ghost use Rattle.registry_calls.specs.Confinement.{StaysConfined, StaysForPush, StaysWithTag};
+ghost use Rattle.registry_calls.specs.Error.{is_memory, FaultCounted, NoSinkFault, registry_refusal};
 ghost use Rattle.registry_calls.specs.Log.{DigestCall, ManifestCall, ImageCall, ReferrersCall, Recalled, Logged};
 ghost use Rattle.registry_calls.specs.Named.{is_named};
 
 use crate::error::SigstoreError;
+use engine_publish::PushResponse;
 use engine_rows::ImageData;
 use json_values::{Blob, Text};
 use oci_auth::RegistryAuth;
 use oci_descriptors::{OciDescriptor, PlatformResolver};
-use oci_manifests::{OciImageIndex, OciManifest};
+use oci_manifests::blob::Config;
+use oci_manifests::{ImageLayer, OciImageIndex, OciImageManifest, OciManifest};
 use oci_names::Reference;
 use oci_transport::Transport;
 use std::alloc::Global;
@@ -40,8 +42,8 @@ pub trait ClientCapabilities {
     ) -> Result<Text, SigstoreError>
         ensures run { (s : Settings) → ClientMeets is_memory s (digest_call (within s moment) image.now auth.now)
             (state self.old) (state self.new) (T.state transport.old) (T.state transport.new) result }
-        ensures fault { FaultCounted (T.state transport.old) (T.state transport.new) result }
-        ensures no_sink_fault { NoSinkFault result }
+        ensures fault { FaultCounted registry_refusal (T.state transport.old) (T.state transport.new) result }
+        ensures no_sink_fault { NoSinkFault registry_refusal result }
         ensures confined { StaysConfined (state self.old) (state self.new) moment image.now (Some auth.now)
             (T.state transport.old) (T.state transport.new) }
         ensures refused { RefusalKeeps (state self.old) (state self.new) result }
@@ -63,8 +65,8 @@ pub trait ClientCapabilities {
         ensures run { (s : Settings)
             → ClientMeets is_memory s (image_call (within s moment) image.now auth.now accepted_media_types.now)
             (state self.old) (state self.new) (T.state transport.old) (T.state transport.new) result }
-        ensures fault { FaultCounted (T.state transport.old) (T.state transport.new) result }
-        ensures no_sink_fault { NoSinkFault result }
+        ensures fault { FaultCounted registry_refusal (T.state transport.old) (T.state transport.new) result }
+        ensures no_sink_fault { NoSinkFault registry_refusal result }
         ensures confined { StaysConfined (state self.old) (state self.new) moment image.now (Some auth.now)
             (T.state transport.old) (T.state transport.new) }
         ensures refused { RefusalKeeps (state self.old) (state self.new) result }
@@ -85,8 +87,8 @@ pub trait ClientCapabilities {
     ) -> Result<(OciManifest, Text), SigstoreError>
         ensures run { (s : Settings) → ClientMeets is_memory s (manifest_call (within s moment) image.now auth.now)
             (state self.old) (state self.new) (T.state transport.old) (T.state transport.new) result }
-        ensures fault { FaultCounted (T.state transport.old) (T.state transport.new) result }
-        ensures no_sink_fault { NoSinkFault result }
+        ensures fault { FaultCounted registry_refusal (T.state transport.old) (T.state transport.new) result }
+        ensures no_sink_fault { NoSinkFault registry_refusal result }
         ensures confined { StaysConfined (state self.old) (state self.new) moment image.now (Some auth.now)
             (T.state transport.old) (T.state transport.new) }
         ensures refused { RefusalKeeps (state self.old) (state self.new) result }
@@ -94,6 +96,28 @@ pub trait ClientCapabilities {
             (state self.old) (state self.new) (T.state transport.old) (T.state transport.new) result }
         ensures logged { (s : Settings) → Logged s manifests (ManifestCall image.now auth.now) moment
             (state self.old) (state self.new) (T.state transport.old) (T.state transport.new) result };
+
+    /// Pushes an image: its layers in order, its configuration, then its manifest, which is the one passed in or
+    /// is built from them without annotations; an error is `RegistryPushError`.
+    fn push<T: Transport>(
+        &mut self,
+        alloc: Global,
+        transport: &mut T,
+        moment: u64,
+        image_ref: &Reference,
+        layers: &[ImageLayer],
+        config: Config,
+        auth: &RegistryAuth,
+        manifest: Option<OciImageManifest>,
+    ) -> Result<PushResponse, SigstoreError>
+        ensures run { (s : Settings) → ClientMeets is_memory s
+            (push_call (within s moment) image_ref.now layers.now config auth.now manifest)
+            (state self.old) (state self.new) (T.state transport.old) (T.state transport.new) result }
+        ensures fault { FaultCounted registry_refusal (T.state transport.old) (T.state transport.new) result }
+        ensures no_sink_fault { NoSinkFault registry_refusal result }
+        ensures confined { StaysForPush (state self.old) (state self.new) moment image_ref.now (Some auth.now)
+            (T.state transport.old) (T.state transport.new) }
+        ensures answers { KeepsAnswers (state self.old) (state self.new) };
 
     /// Returns the index of the image digest's referrers, only of this artifact type if one is given. A token is
     /// obtained first; its error is `RegistryFetchManifestError`, any other error is `RegistryPullManifestError`.
@@ -110,8 +134,8 @@ pub trait ClientCapabilities {
             → ClientMeets is_memory s
             (referrers_call (within s moment) image.now auth.now (option_copied artifact_type.entry))
             (state self.old) (state self.new) (T.state transport.old) (T.state transport.new) result }
-        ensures fault { FaultCounted (T.state transport.old) (T.state transport.new) result }
-        ensures no_sink_fault { NoSinkFault result }
+        ensures fault { FaultCounted registry_refusal (T.state transport.old) (T.state transport.new) result }
+        ensures no_sink_fault { NoSinkFault registry_refusal result }
         ensures confined { StaysWithTag (state self.old) (state self.new) moment image.now (Some auth.now)
             (T.state transport.old) (T.state transport.new) }
         ensures refused { RefusalKeeps (state self.old) (state self.new) result }
@@ -136,8 +160,8 @@ pub trait ClientCapabilities {
             → ClientMeets is_memory s
             (document_call (within s moment) image.now auth.now (listed accepted_media_types.now))
             (state self.old) (state self.new) (T.state transport.old) (T.state transport.new) result }
-        ensures fault { FaultCounted (T.state transport.old) (T.state transport.new) result }
-        ensures no_sink_fault { NoSinkFault result }
+        ensures fault { FaultCounted registry_refusal (T.state transport.old) (T.state transport.new) result }
+        ensures no_sink_fault { NoSinkFault registry_refusal result }
         ensures confined { StaysConfined (state self.old) (state self.new) moment image.now (Some auth.now)
             (T.state transport.old) (T.state transport.new) }
         ensures answers { KeepsAnswers (state self.old) (state self.new) };
@@ -154,8 +178,8 @@ pub trait ClientCapabilities {
         ensures run { (s : Settings)
             → ClientMeets is_memory s (blob_call (within s moment) image.now (described layer.now))
             (state self.old) (state self.new) (T.state transport.old) (T.state transport.new) result }
-        ensures fault { FaultCounted (T.state transport.old) (T.state transport.new) result }
-        ensures no_sink_fault { NoSinkFault result }
+        ensures fault { FaultCounted registry_refusal (T.state transport.old) (T.state transport.new) result }
+        ensures no_sink_fault { NoSinkFault registry_refusal result }
         ensures confined { StaysConfined (state self.old) (state self.new) moment image.now None
             (T.state transport.old) (T.state transport.new) }
         ensures answers { KeepsAnswers (state self.old) (state self.new) };

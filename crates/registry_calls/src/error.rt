@@ -33,6 +33,12 @@ pub enum SigstoreError {
         image: Text,
         error: OciDistributionError,
     },
+    /// An image was not pushed.
+    #[error("the image was not pushed: read the error of the registry's client")]
+    RegistryPushError {
+        image: Text,
+        error: OciDistributionError,
+    },
     /// The allocator had no memory.
     #[error("out of memory: free some and try again")]
     WantOfMemory,
@@ -65,6 +71,10 @@ impl Copied for SigstoreError {
             SigstoreError::RegistryPullManifestError { image, error } => {
                 let row!(image, error) = copy_all(alloc, row!(image, error))?;
                 SigstoreError::RegistryPullManifestError { image, error }
+            }
+            SigstoreError::RegistryPushError { image, error } => {
+                let row!(image, error) = copy_all(alloc, row!(image, error))?;
+                SigstoreError::RegistryPushError { image, error }
             }
             SigstoreError::WantOfMemory => SigstoreError::WantOfMemory,
         })

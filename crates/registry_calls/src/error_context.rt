@@ -1,7 +1,8 @@
 // Errors of the registry's client, with the context of the call.
 ghost use Rattle.std.specs.Prelude.{◌≡◌, IfOk};
 ghost use Rattle.oci_names.specs.Reference.{whole_text};
-ghost use Rattle.registry_calls.specs.Error.{Matches};
+ghost use Rattle.json_values.specs.Refusals.{Matches};
+ghost use Rattle.registry_calls.specs.Error.{is_memory};
 ghost use Rattle.registry_calls.specs.ErrorContext.{refusal, with_error_context};
 
 use crate::error::SigstoreError;
@@ -15,6 +16,7 @@ pub enum Called {
     FetchManifest,
     Pull,
     PullManifest,
+    Push,
 }
 
 fn refusal(
@@ -30,6 +32,7 @@ fn refusal(
         Called::FetchManifest => SigstoreError::RegistryFetchManifestError { image, error },
         Called::Pull => SigstoreError::RegistryPullError { image, error },
         Called::PullManifest => SigstoreError::RegistryPullManifestError { image, error },
+        Called::Push => SigstoreError::RegistryPushError { image, error },
     })
 }
 
@@ -40,7 +43,7 @@ pub fn with_error_context<A: Drop>(
     image: &Reference,
     outcome: Result<A, OciDistributionError>,
 ) -> Result<A, SigstoreError>
-    ensures { Matches result (with_error_context called (whole_text image.now) outcome) }
+    ensures { Matches is_memory result (with_error_context called (whole_text image.now) outcome) }
 {
     match outcome {
         Ok(answer) => Ok(answer),

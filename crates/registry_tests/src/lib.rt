@@ -1,5 +1,5 @@
-//! Tests of the calls that an index leads on, of the references that the search takes, of what calls are asked with, and of
-//! the answers that are kept.
+//! Tests of the calls that an index leads to, of the references that the search takes, of the keys of cached responses,
+//! and of the responses themselves.
 #![tactic(auto)]
 
 #[cfg(test)]

@@ -18,10 +18,17 @@ fn is_printed(alloc: Global, reference: &OciReference, want: &str) -> Result<boo
     Ok(shown.as_str() == want && whole.as_str() == want)
 }
 
-fn is_read(alloc: Global, text: &str, want: &str) -> bool {
+fn parsed(alloc: Global, text: &str) -> Option<OciReference> {
     match OciReference::parse(alloc, text) {
-        Ok(reference) => holds(is_printed(alloc, &reference, want)),
-        Err(_) => false,
+        Ok(reference) => Some(reference),
+        Err(_) => None,
+    }
+}
+
+fn is_read(alloc: Global, text: &str, want: &str) -> bool {
+    match parsed(alloc, text) {
+        Some(reference) => holds(is_printed(alloc, &reference, want)),
+        None => false,
     }
 }
 

@@ -28,7 +28,8 @@ use Rattle.registry_cache.specs.declared.answer.Answer.TheVariants.{Digest, Mani
 use Rattle.registry_cache.specs.declared.answers.Answers.{Answers}
 use Rattle.registry_calls.specs.declared.error.SigstoreError.{SigstoreError}
 use Rattle.registry_calls.specs.declared.error.SigstoreError.TheVariants as refusal
-use Rattle.registry_calls.specs.Error.{is_memory, Matches, registry_refusal, IsRefusedBy}
+use Rattle.json_values.specs.Refusals.{Matches}
+use Rattle.registry_calls.specs.Error.{is_memory, registry_refusal, IsRefusedBy}
 use Rattle.registry_calls.specs.Clients.{Kept, Plain, Client, ClientMeets, RefusalKeeps}
 use Rattle.sig_registry.specs.States.{engine_state, PlainlyMade}
 use Rattle.registry_calls.specs.Caching.{cached}
@@ -79,8 +80,8 @@ key_missing false key is = refl
 abbrev Memory : {A : Type 0} → Result A SigstoreError → Type 0
 Memory r = IsErrAnd r (λ e. e ≡ refusal.WantOfMemory)
 
-memory_says : {A : Type 0} (r said : Result A SigstoreError) → Memory r → Matches r said
-memory_says {A} r said is = let at = err_from_is_err_and r is in let whole : r ≡ Err refusal.WantOfMemory = at.1 ∙ ap Err at.2 in subst (λ (x : Result A SigstoreError). Matches x said) (sym whole) tt
+memory_says : {A : Type 0} (r said : Result A SigstoreError) → Memory r → Matches is_memory r said
+memory_says {A} r said is = let at = err_from_is_err_and r is in let whole : r ≡ Err refusal.WantOfMemory = at.1 ∙ ap Err at.2 in subst (λ (x : Result A SigstoreError). Matches is_memory x said) (sym whole) tt
 
 -- the clauses of a call, except for the causes of its faults and its confinement
 pub record Facts {A : Type 0} (cache : Cache A) (call : Call) (now : ℕ) (row : Settings → Plain A) (c d : Client) (old new : Link) (r : Result A SigstoreError) : Type 0 where
@@ -117,7 +118,7 @@ module _ {A : Type 0} (cache : Cache A) (law : IsCache cache) (call : Call) (now
         (λ s. record { made = λ at. (at, kept.reads cache (key_called call) now (row s) (reads_back (image_called call)) read_back (kept.recall cache (key_called call) now (row s) a (at_key x is))) })
         (λ h. absurd (cc h))
         (record { recalled = λ answer reads found. (at_answer answer found, refl, refl) }) where
-          at_answer : (answer : A) → known cache (key_called call) now x ≡ Some answer → Matches (Ok a) (Ok answer)
+          at_answer : (answer : A) → known cache (key_called call) now x ≡ Some answer → Matches is_memory (Ok a) (Ok answer)
           at_answer answer found = let same : Some a ≡ Some answer = sym (at_key x is) ∙ found in cc same
 
     -- the uncached call was refused, or was cut short
@@ -163,12 +164,12 @@ never_kept {x = x} plain = record { made = λ same. let made = plain.made same i
 -- ---- faults
 
 -- an out-of-memory error holds no error of the registry's client
-pub memory_holds_none : {A : Type 0} (f : OciDistributionError) (P : Type 0) (r : Result A SigstoreError) → Memory r → IsRefusedBy f r → P
+pub memory_holds_none : {A : Type 0} (f : OciDistributionError) (P : Type 0) (r : Result A SigstoreError) → Memory r → IsRefusedBy registry_refusal f r → P
 memory_holds_none f P (Ok a) is held = absurd is
 memory_holds_none f P (Err e) is held = absurd (cc (ap registry_refusal is, held))
 
 -- an error that is passed on holds the same error
-pub same_held : {B : Type 0} (f : OciDistributionError) (P : Type 0) (e : SigstoreError) (r : Result B SigstoreError) → IsErrAnd r (λ x. x ≡ e) → (registry_refusal e ≡ Some f → P) → IsRefusedBy f r → P
+pub same_held : {B : Type 0} (f : OciDistributionError) (P : Type 0) (e : SigstoreError) (r : Result B SigstoreError) → IsErrAnd r (λ x. x ≡ e) → (registry_refusal e ≡ Some f → P) → IsRefusedBy registry_refusal f r → P
 same_held f P e (Ok b) is h held = absurd is
 same_held f P e (Err x) is h held = h (ap registry_refusal (sym is) ∙ held)
 

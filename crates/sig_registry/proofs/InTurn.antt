@@ -20,6 +20,7 @@ use Rattle.engine_terms.specs.declared.error.OciDistributionError.TheVariants as
 use Rattle.oci_transport.specs.declared.message.Exchange.{Exchange}
 use Rattle.oci_engine.specs.declared.client.Client.{Client}
 use Rattle.oci_engine.specs.Refusals.{RefusedFor}
+use Rattle.json_values.specs.Refusals.{Matches}
 use Rattle.engine_terms.specs.Error.{is_memory as engine_is_memory}
 use Rattle.engine_rows.specs.Rows.{Row as Engine, token_given}
 use Rattle.engine_rows.specs.Referrers.{pull_referrers}
@@ -30,7 +31,7 @@ use Rattle.engine_laws.proofs.ReferrersConfinement.{given_referrers_confined}
 use Rattle.registry_calls.specs.declared.error.SigstoreError.{SigstoreError}
 use Rattle.registry_calls.specs.declared.error.SigstoreError.TheVariants as sigstore
 use Rattle.registry_calls.specs.declared.error_context.Called.{Called}
-use Rattle.registry_calls.specs.Error.{is_memory, Matches, IsRefusedBy, NoSinkFault}
+use Rattle.registry_calls.specs.Error.{is_memory, IsRefusedBy, NoSinkFault, registry_refusal}
 use Rattle.registry_calls.specs.ErrorContext.{refusal, with_error_context}
 use Rattle.sig_registry.proofs.InWords.{worded_fault, worded_no_sink}
 use Rattle.registry_calls.specs.Clients.{Plain}
@@ -59,14 +60,14 @@ made_next {A} {B} s {p} f {c} {m} {d} {old} {mid} {new} a r first second = recor
       (g.0, Meets-next f h.1 g.1)
 
 -- the first one's error is the result
-pub refused_fault : {A B : Type 0} (called : Called) (text : List ℕ) (given : Result A OciDistributionError) (e : SigstoreError) (r : Result B SigstoreError) (P : Type 0) → (given ≡ Err engine.TransportFault → P) → Matches (Err e) (with_error_context called text given) → IsErrAnd r (λ x. x ≡ e) → IsRefusedBy engine.TransportFault r → P
-refused_fault {A} {B} called text given e r P fault says is held = worded_fault called text given (Err e) P fault says (let Q : Result B SigstoreError → Type 0 = IsRefusedBy engine.TransportFault in subst Q (result_is e r is) held)
+pub refused_fault : {A B : Type 0} (called : Called) (text : List ℕ) (given : Result A OciDistributionError) (e : SigstoreError) (r : Result B SigstoreError) (P : Type 0) → (given ≡ Err engine.TransportFault → P) → Matches is_memory (Err e) (with_error_context called text given) → IsErrAnd r (λ x. x ≡ e) → IsRefusedBy registry_refusal engine.TransportFault r → P
+refused_fault {A} {B} called text given e r P fault says is held = worded_fault called text given (Err e) P fault says (let Q : Result B SigstoreError → Type 0 = IsRefusedBy registry_refusal engine.TransportFault in subst Q (result_is e r is) held)
 
-pub refused_no_sink : {A B : Type 0} (called : Called) (text : List ℕ) (Why : List Exchange → ℕ → OciDistributionError → Type 0) (old new : Link) (given : Result A OciDistributionError) (e : SigstoreError) (r : Result B SigstoreError) → ((c : List Exchange) (n : ℕ) → Why c n engine.SinkFault → ⊥) → RefusedFor Why old new given → Matches (Err e) (with_error_context called text given) → IsErrAnd r (λ x. x ≡ e) → NoSinkFault r
-refused_no_sink {A} {B} called text Why old new given e r never causes says is held = worded_no_sink called text Why old new given (Err e) never causes says (let Q : Result B SigstoreError → Type 0 = IsRefusedBy engine.SinkFault in subst Q (result_is e r is) held)
+pub refused_no_sink : {A B : Type 0} (called : Called) (text : List ℕ) (Why : List Exchange → ℕ → OciDistributionError → Type 0) (old new : Link) (given : Result A OciDistributionError) (e : SigstoreError) (r : Result B SigstoreError) → ((c : List Exchange) (n : ℕ) → Why c n engine.SinkFault → ⊥) → RefusedFor Why old new given → Matches is_memory (Err e) (with_error_context called text given) → IsErrAnd r (λ x. x ≡ e) → NoSinkFault registry_refusal r
+refused_no_sink {A} {B} called text Why old new given e r never causes says is held = worded_no_sink called text Why old new given (Err e) never causes says (let Q : Result B SigstoreError → Type 0 = IsRefusedBy registry_refusal engine.SinkFault in subst Q (result_is e r is) held)
 
 -- a response with the call's context is the engine's response
-pub worded_ok : {A : Type 0} (called : Called) (text : List ℕ) (r : Result A OciDistributionError) (a : A) → Matches (Ok a) (with_error_context called text r) → r ≡ Ok a
+pub worded_ok : {A : Type 0} (called : Called) (text : List ℕ) (r : Result A OciDistributionError) (a : A) → Matches is_memory (Ok a) (with_error_context called text r) → r ≡ Ok a
 worded_ok called text (Ok b) a is = let same : b ≡ a = cc is in ap Ok same
 worded_ok called text (Err e) a is = by_memory (engine_is_memory e) is where
   by_memory : (b : Bool) → (if b then Err sigstore.WantOfMemory else Err (refusal called text e)) ≡ Ok a → Err e ≡ Ok a

@@ -18,6 +18,7 @@ use Rattle.oci_protocol.specs.Runs.{Runs, Meets}
 use Rattle.oci_protocol.proofs.Parts.{Runs-ok-parts, Runs-done}
 use Rattle.engine_terms.specs.Contexts.{Context}
 use Rattle.engine_terms.specs.declared.error.OciDistributionError.{OciDistributionError}
+use Rattle.json_values.specs.Refusals.{Matches}
 use Rattle.engine_terms.specs.Error.{is_memory as engine_is_memory}
 use Rattle.engine_requests.specs.Sources.{described}
 use Rattle.engine_rows.specs.Blobs.{IntoMemory}
@@ -37,7 +38,7 @@ use Rattle.registry_cache.specs.KeptCalls.{images}
 use Rattle.registry_calls.specs.declared.error.SigstoreError.{SigstoreError}
 use Rattle.registry_calls.specs.declared.error.SigstoreError.TheVariants as sigstore
 use Rattle.registry_calls.specs.declared.error_context.Called.{Called}
-use Rattle.registry_calls.specs.Error.{Matches}
+use Rattle.registry_calls.specs.Error.{is_memory}
 use Rattle.registry_calls.specs.ErrorContext.{refusal, with_error_context}
 use Rattle.registry_calls.specs.Named.{names_each, is_named, answer_named, all_named}
 
@@ -91,7 +92,7 @@ worded_ok {A} called text (Err e) a is = by_memory (engine_is_memory e) is where
   by_memory false h = absurd (cc h)
 
 pub pulled_named : (called : Called) (text : List ℕ) (s : Context) (image : Reference) (a : RegistryAuth) (accepted : List (List ℕ)) {old new : Link} {k l : AuthState} {r : Result ImageData OciDistributionError} (t : Result ImageData SigstoreError)
-    → Meets engine_is_memory (pull s image a accepted) old new k l r → Matches t (with_error_context called text r) → IfOk t (λ given. IsTrue (is_named given))
+    → Meets engine_is_memory (pull s image a accepted) old new k l r → Matches is_memory t (with_error_context called text r) → IfOk t (λ given. IsTrue (is_named given))
 pulled_named called text s image a accepted (Err e) met says = tt
 pulled_named called text s image a accepted {old} {new} {k} {l} {r} (Ok given) met says =
     let answered : r ≡ Ok given = worded_ok called text r given says in

@@ -1,6 +1,7 @@
 -- The states of a registry's clients.
-use Rattle.std.specs.Prelude.{◌≡◌, Bool, Option, Some, None, Result}
+use Rattle.std.specs.Prelude.{◌≡◌, ℕ, Bool, Option, Some, None, Result}
 use Rattle.oci_auth.specs.AuthState.{fresh}
+use Rattle.oci_auth.specs.Cache.{bounded}
 use Rattle.oci_transport.specs.Link.{Link}
 use Rattle.oci_protocol.specs.Runs.{Meets}
 use Rattle.engine_terms.specs.declared.settings.Settings.{Settings}
@@ -16,6 +17,10 @@ use Rattle.sig_registry.specs.declared.plain.OciClient.{OciClient}
 use Rattle.sig_registry.specs.declared.registry_client.RegistryClient.{RegistryClient}
 use Rattle.sig_registry.specs.declared.registry_client.RegistryClient.TheVariants as given
 use Rattle.oci_engine.specs.Kept.{auth_state_of}
+
+-- the registry's client with at most so many tokens
+abbrev pub with_few_tokens : ℕ → Engine → Engine
+with_few_tokens most c = record c { tokens = bounded most c.tokens }
 
 -- the registry's client, with these responses cached
 abbrev pub engine_state : Engine → Option Answers → Client

@@ -3,13 +3,14 @@ ghost use Rattle.std.specs.Prelude.{IsTrue};
 ghost use Rattle.registry_calls.specs.Named.{all_named};
 
 use crate::calls::{
-    blob_made, digest_made, document_made, image_made, manifest_made, referrers_made,
+    blob_made, digest_made, document_made, image_made, manifest_made, push_made, referrers_made,
 };
 use json_values::{Blob, Text};
 use oci_auth::RegistryAuth;
 use oci_descriptors::OciDescriptor;
-use oci_engine::{Client, ImageData, PlatformResolver};
-use oci_manifests::{OciImageIndex, OciManifest};
+use oci_engine::{Client, ImageData, PlatformResolver, PushResponse};
+use oci_manifests::blob::Config;
+use oci_manifests::{ImageLayer, OciImageIndex, OciImageManifest, OciManifest};
 use oci_names::Reference;
 use oci_transport::Transport;
 use registry_cache::{
@@ -33,7 +34,8 @@ impl OciCachingClient {
     ghost use Rattle.std.specs.Prelude.{◌≡◌, [], Some, None};
     ghost use Rattle.engine_terms.specs.declared.settings.Settings.{Settings};
     ghost use Rattle.registry_calls.specs.Clients.{none_kept};
-    ghost use Rattle.sig_registry.specs.States.{engine_state, caching_state};
+    ghost use Rattle.oci_auth.specs.Kept.{AreWithin};
+    ghost use Rattle.sig_registry.specs.States.{engine_state, caching_state, with_few_tokens};
     ghost use Rattle.registry_calls.specs.Log.{IsBacked};
 
     /// Returns a client that caches all responses.
@@ -48,12 +50,20 @@ impl OciCachingClient {
     }
 
     /// Returns a client that caches at most `answers` responses and `bytes` bytes of them: beyond that it evicts the
-    /// oldest until the others fit.
-    pub fn with_bounds(alloc: Global, client: Client, answers: u64, bytes: u64) -> OciCachingClient
-        ensures state { caching_state result
-            ≡ engine_state client (Some (none_kept (Some (record { answers = answers; bytes = bytes })))) }
+    /// oldest until the others fit. It stores at most `answers` tokens, but always the latest: beyond that it drops the
+    /// oldest.
+    pub fn with_bounds(
+        alloc: Global,
+        mut client: Client,
+        answers: u64,
+        bytes: u64,
+    ) -> OciCachingClient
+        ensures state { caching_state result ≡ engine_state (with_few_tokens answers client)
+            (Some (none_kept (Some (record { answers = answers; bytes = bytes })))) }
+        ensures few { AreWithin (Some answers) (caching_state result).kept.0.tokens.tokens }
         ensures backed { (s : Settings) → IsBacked s (caching_state result).kept.1 [] }
     {
+        client.tokens.bound(answers);
         let bounds = Bounds { answers, bytes };
         OciCachingClient {
             client,
@@ -146,6 +156,30 @@ impl ClientCapabilities for OciCachingClient {
         let manifest = manifest_made(&mut self.client, alloc, transport, moment, image, auth)?;
         keep_manifest(alloc, &mut self.answers, key, moment, &manifest)?;
         Ok(manifest)
+    }
+
+    fn push<T: Transport>(
+        &mut self,
+        alloc: Global,
+        transport: &mut T,
+        moment: u64,
+        image_ref: &Reference,
+        layers: &[ImageLayer],
+        config: Config,
+        auth: &RegistryAuth,
+        manifest: Option<OciImageManifest>,
+    ) -> Result<PushResponse, SigstoreError> {
+        push_made(
+            &mut self.client,
+            alloc,
+            transport,
+            moment,
+            image_ref,
+            layers,
+            config,
+            auth,
+            manifest,
+        )
     }
 
     fn pull_referrers<T: Transport>(

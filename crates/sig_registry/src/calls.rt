@@ -5,17 +5,18 @@ ghost use Rattle.engine_terms.specs.Contexts.{within};
 ghost use Rattle.engine_requests.specs.Requests.{listed};
 ghost use Rattle.engine_requests.specs.Sources.{described};
 ghost use Rattle.registry_calls.specs.Calls.{digest_made, manifest_made, image_made, document_made, blob_made};
-ghost use Rattle.registry_calls.specs.Calls.{referrers_made};
+ghost use Rattle.registry_calls.specs.Calls.{referrers_made, push_made};
 ghost use Rattle.sig_registry.specs.States.{PlainlyMade, engine_state};
-ghost use Rattle.registry_calls.specs.Confinement.{StaysConfined, StaysWithTag};
-ghost use Rattle.registry_calls.specs.Error.{FaultCounted, NoSinkFault};
+ghost use Rattle.registry_calls.specs.Confinement.{StaysConfined, StaysForPush, StaysWithTag};
+ghost use Rattle.registry_calls.specs.Error.{FaultCounted, NoSinkFault, registry_refusal};
 ghost use Rattle.registry_calls.specs.Named.{is_named};
 
 use json_values::{Blob, Text};
 use oci_auth::{RegistryAuth, RegistryOperation};
 use oci_descriptors::OciDescriptor;
-use oci_engine::{Client, ImageData};
-use oci_manifests::{OciImageIndex, OciManifest};
+use oci_engine::{Client, ImageData, PushResponse};
+use oci_manifests::blob::Config;
+use oci_manifests::{ImageLayer, OciImageIndex, OciImageManifest, OciManifest};
 use oci_names::Reference;
 use oci_transport::Transport;
 use registry_calls::{Called, SigstoreError, with_error_context};
@@ -33,8 +34,8 @@ pub(crate) fn digest_made<T: Transport>(
     ensures run { (s : Settings) → PlainlyMade s (digest_made (within s moment) image.now auth.now)
         client.old client.new
         (T.state transport.old) (T.state transport.new) result }
-    ensures fault { FaultCounted (T.state transport.old) (T.state transport.new) result }
-    ensures no_sink_fault { NoSinkFault result }
+    ensures fault { FaultCounted registry_refusal (T.state transport.old) (T.state transport.new) result }
+    ensures no_sink_fault { NoSinkFault registry_refusal result }
     ensures confined { StaysConfined (engine_state client.old None) (engine_state client.new None) moment image.now
         (Some auth.now) (T.state transport.old) (T.state transport.new) }
 {
@@ -55,8 +56,8 @@ pub(crate) fn image_made<T: Transport>(
     ensures run { (s : Settings) → PlainlyMade s
         (image_made (within s moment) image.now auth.now accepted_media_types.now) client.old client.new
         (T.state transport.old) (T.state transport.new) result }
-    ensures fault { FaultCounted (T.state transport.old) (T.state transport.new) result }
-    ensures no_sink_fault { NoSinkFault result }
+    ensures fault { FaultCounted registry_refusal (T.state transport.old) (T.state transport.new) result }
+    ensures no_sink_fault { NoSinkFault registry_refusal result }
     ensures confined { StaysConfined (engine_state client.old None) (engine_state client.new None) moment image.now
         (Some auth.now) (T.state transport.old) (T.state transport.new) }
     ensures named { IfOk result (λ image. IsTrue (is_named image)) }
@@ -77,13 +78,39 @@ pub(crate) fn manifest_made<T: Transport>(
     ensures run { (s : Settings) → PlainlyMade s (manifest_made (within s moment) image.now auth.now)
         client.old client.new
         (T.state transport.old) (T.state transport.new) result }
-    ensures fault { FaultCounted (T.state transport.old) (T.state transport.new) result }
-    ensures no_sink_fault { NoSinkFault result }
+    ensures fault { FaultCounted registry_refusal (T.state transport.old) (T.state transport.new) result }
+    ensures no_sink_fault { NoSinkFault registry_refusal result }
     ensures confined { StaysConfined (engine_state client.old None) (engine_state client.new None) moment image.now
         (Some auth.now) (T.state transport.old) (T.state transport.new) }
 {
     let outcome = client.pull_manifest(alloc, transport, moment, image, auth);
     with_error_context(alloc, Called::PullManifest, image, outcome)
+}
+
+/// Pushes an image.
+pub(crate) fn push_made<T: Transport>(
+    client: &mut Client,
+    alloc: Global,
+    transport: &mut T,
+    moment: u64,
+    image: &Reference,
+    layers: &[ImageLayer],
+    config: Config,
+    auth: &RegistryAuth,
+    manifest: Option<OciImageManifest>,
+) -> Result<PushResponse, SigstoreError>
+    ensures run { (s : Settings) → PlainlyMade s
+        (push_made (within s moment) image.now layers.now config auth.now manifest) client.old client.new
+        (T.state transport.old) (T.state transport.new) result }
+    ensures fault { FaultCounted registry_refusal (T.state transport.old) (T.state transport.new) result }
+    ensures no_sink_fault { NoSinkFault registry_refusal result }
+    ensures confined { StaysForPush (engine_state client.old None) (engine_state client.new None) moment image.now
+        (Some auth.now) (T.state transport.old) (T.state transport.new) }
+{
+    let outcome = client.push(
+        alloc, transport, moment, image, layers, config, auth, manifest,
+    );
+    with_error_context(alloc, Called::Push, image, outcome)
 }
 
 /// Returns the index of the image digest's referrers; a token is obtained first.
@@ -99,8 +126,8 @@ pub(crate) fn referrers_made<T: Transport>(
     ensures run { (s : Settings) → PlainlyMade s
         (referrers_made (within s moment) image.now auth.now (option_copied artifact_type.entry)) client.old client.new
         (T.state transport.old) (T.state transport.new) result }
-    ensures fault { FaultCounted (T.state transport.old) (T.state transport.new) result }
-    ensures no_sink_fault { NoSinkFault result }
+    ensures fault { FaultCounted registry_refusal (T.state transport.old) (T.state transport.new) result }
+    ensures no_sink_fault { NoSinkFault registry_refusal result }
     ensures confined { StaysWithTag (engine_state client.old None) (engine_state client.new None) moment image.now
         (Some auth.now) (T.state transport.old) (T.state transport.new) }
 {
@@ -130,8 +157,8 @@ pub(crate) fn document_made<T: Transport>(
     ensures run { (s : Settings) → PlainlyMade s
         (document_made (within s moment) image.now auth.now (listed accepted_media_types.now)) client.old client.new
         (T.state transport.old) (T.state transport.new) result }
-    ensures fault { FaultCounted (T.state transport.old) (T.state transport.new) result }
-    ensures no_sink_fault { NoSinkFault result }
+    ensures fault { FaultCounted registry_refusal (T.state transport.old) (T.state transport.new) result }
+    ensures no_sink_fault { NoSinkFault registry_refusal result }
     ensures confined { StaysConfined (engine_state client.old None) (engine_state client.new None) moment image.now
         (Some auth.now) (T.state transport.old) (T.state transport.new) }
 {
@@ -158,8 +185,8 @@ pub(crate) fn blob_made<T: Transport>(
     ensures run { (s : Settings) → PlainlyMade s (blob_made (within s moment) image.now (described layer.now))
         client.old client.new
         (T.state transport.old) (T.state transport.new) result }
-    ensures fault { FaultCounted (T.state transport.old) (T.state transport.new) result }
-    ensures no_sink_fault { NoSinkFault result }
+    ensures fault { FaultCounted registry_refusal (T.state transport.old) (T.state transport.new) result }
+    ensures no_sink_fault { NoSinkFault registry_refusal result }
     ensures confined { StaysConfined (engine_state client.old None) (engine_state client.new None) moment image.now None
         (T.state transport.old) (T.state transport.new) }
 {

@@ -1,12 +1,13 @@
 // A client that does not cache.
 use crate::calls::{
-    blob_made, digest_made, document_made, image_made, manifest_made, referrers_made,
+    blob_made, digest_made, document_made, image_made, manifest_made, push_made, referrers_made,
 };
 use json_values::{Blob, Text};
 use oci_auth::RegistryAuth;
 use oci_descriptors::OciDescriptor;
-use oci_engine::{Client, ImageData, PlatformResolver};
-use oci_manifests::{OciImageIndex, OciManifest};
+use oci_engine::{Client, ImageData, PlatformResolver, PushResponse};
+use oci_manifests::blob::Config;
+use oci_manifests::{ImageLayer, OciImageIndex, OciImageManifest, OciManifest};
 use oci_names::Reference;
 use oci_transport::Transport;
 use registry_calls::{ClientCapabilities, SigstoreError};
@@ -81,6 +82,30 @@ impl ClientCapabilities for OciClient {
         auth: &RegistryAuth,
     ) -> Result<(OciManifest, Text), SigstoreError> {
         manifest_made(&mut self.client, alloc, transport, moment, image, auth)
+    }
+
+    fn push<T: Transport>(
+        &mut self,
+        alloc: Global,
+        transport: &mut T,
+        moment: u64,
+        image_ref: &Reference,
+        layers: &[ImageLayer],
+        config: Config,
+        auth: &RegistryAuth,
+        manifest: Option<OciImageManifest>,
+    ) -> Result<PushResponse, SigstoreError> {
+        push_made(
+            &mut self.client,
+            alloc,
+            transport,
+            moment,
+            image_ref,
+            layers,
+            config,
+            auth,
+            manifest,
+        )
     }
 
     fn pull_referrers<T: Transport>(

@@ -4,8 +4,9 @@ use crate::plain::OciClient;
 use json_values::{Blob, Text};
 use oci_auth::RegistryAuth;
 use oci_descriptors::OciDescriptor;
-use oci_engine::{Client, ClientConfig, ImageData, PlatformResolver};
-use oci_manifests::{OciImageIndex, OciManifest};
+use oci_engine::{Client, ClientConfig, ImageData, PlatformResolver, PushResponse};
+use oci_manifests::blob::Config;
+use oci_manifests::{ImageLayer, OciImageIndex, OciImageManifest, OciManifest};
 use oci_names::Reference;
 use oci_transport::Transport;
 use registry_calls::{ClientCapabilities, SigstoreError};
@@ -117,6 +118,27 @@ impl ClientCapabilities for RegistryClient {
             ),
             RegistryClient::Caching(client) => client.pull_manifest(
                 alloc, transport, moment, image, auth,
+            ),
+        }
+    }
+
+    fn push<T: Transport>(
+        &mut self,
+        alloc: Global,
+        transport: &mut T,
+        moment: u64,
+        image_ref: &Reference,
+        layers: &[ImageLayer],
+        config: Config,
+        auth: &RegistryAuth,
+        manifest: Option<OciImageManifest>,
+    ) -> Result<PushResponse, SigstoreError> {
+        match self {
+            RegistryClient::Plain(client) => client.push(
+                alloc, transport, moment, image_ref, layers, config, auth, manifest,
+            ),
+            RegistryClient::Caching(client) => client.push(
+                alloc, transport, moment, image_ref, layers, config, auth, manifest,
             ),
         }
     }

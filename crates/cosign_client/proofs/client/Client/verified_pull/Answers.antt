@@ -4,13 +4,16 @@ use Rattle.registry_cache.specs.Auths.{registry_auth}
 use Rattle.registry_calls.specs.Direct.{reference_in}
 use Rattle.cosign_layers.specs.Satisfying.{PolicyContext, policy_context}
 use Rattle.cosign_client.specs.State.{client_state, trusts}
+use Rattle.sig_registry.specs.States.{state_of}
 use Rattle.cosign_laws.proofs.Causes.{pull_cause}
 use Rattle.cosign_laws.proofs.Chains.{chain_of, links_of, backed_of}
 use Rattle.cosign_laws.proofs.Confinement.{pull_confined}
 use Rattle.cosign_laws.proofs.DigestStep.{unread_refused, pull_decided}
 use Rattle.cosign_laws.proofs.Faults.{pull_no_memory, pull_faults}
+use Rattle.cosign_laws.proofs.PlainClients.{pull_plain}
 use Rattle.cosign_laws.proofs.Refusals.{pull_fault, pull_no_sink}
 use Rattle.cosign_laws.proofs.ShelfPulls.{completed_wide, settled_after, valid_wide}
+use Rattle.cosign_client.proofs.KeptStates.{keeps_only}
 use Rattle.cosign_client.proofs.client.Client.verified_pull.Goals as goal
 
 pub returns-clause-run : goal.returns-clause-run
@@ -59,7 +62,10 @@ pub returns-clause-completes : goal.returns-clause-completes
 returns-clause-completes g c = λ shelf from settled valid. returns-clause-completes_wide g c shelf from settled (valid_wide (policy_context c.args.policy.now (λ b. (goal.VerificationConstraint-dyn g (b.vtable, b.value)).accepts b.value) (trusts (g.V.SignatureVerifier.valid c.args.verifier.now) (g.O.Offline.vouched c.args.judge.now) c.args.self.now)) (client_state c.args.self.now).settings (reference_in c.args.image.now) (registry_auth c.args.auth.now) c.args.accepted_media_types.now shelf valid)
 
 pub returns-clause-settled : goal.returns-clause-settled
-returns-clause-settled g c = λ shelf from asked settled. settled_after (policy_context c.args.policy.now (λ b. (goal.VerificationConstraint-dyn g (b.vtable, b.value)).accepts b.value) (trusts (g.V.SignatureVerifier.valid c.args.verifier.now) (g.O.Offline.vouched c.args.judge.now) c.args.self.now)) (client_state c.args.self.now).settings (reference_in c.args.image.now) (registry_auth c.args.auth.now) c.args.accepted_media_types.now shelf asked c.args.moment c.pull_verified.result from settled (returns-clause-run g c)
+returns-clause-settled g c = λ shelf from settled other at_one also. settled_after (policy_context c.args.policy.now (λ b. (goal.VerificationConstraint-dyn g (b.vtable, b.value)).accepts b.value) (trusts (g.V.SignatureVerifier.valid c.args.verifier.now) (g.O.Offline.vouched c.args.judge.now) c.args.self.now)) (client_state c.args.self.now).settings (reference_in c.args.image.now) other (registry_auth c.args.auth.now) c.args.accepted_media_types.now shelf at_one c.args.moment c.pull_verified.result from settled also (returns-clause-run g c)
 
 pub returns-clause-confined : goal.returns-clause-confined
 returns-clause-confined g c = pull_confined (policy_context c.args.policy.now (λ b. (goal.VerificationConstraint-dyn g (b.vtable, b.value)).accepts b.value) (trusts (g.V.SignatureVerifier.valid c.args.verifier.now) (g.O.Offline.vouched c.args.judge.now) c.args.self.now)) (within (client_state c.args.self.now).settings c.args.moment) (reference_in c.args.image.now) (registry_auth c.args.auth.now) c.args.accepted_media_types.now c.pull_verified.result c.args.image.now.direct (returns-clause-run g c)
+
+pub returns-clause-keeps : goal.returns-clause-keeps
+returns-clause-keeps g c = keeps_only (client_state c.args.self.now) (state_of c.pull_verified.new.client) c.args.moment (reference_in c.args.image.now) (registry_auth c.args.auth.now) (returns-clause-confined g c) (pull_plain (policy_context c.args.policy.now (λ b. (goal.VerificationConstraint-dyn g (b.vtable, b.value)).accepts b.value) (trusts (g.V.SignatureVerifier.valid c.args.verifier.now) (g.O.Offline.vouched c.args.judge.now) c.args.self.now)) (within (client_state c.args.self.now).settings c.args.moment) (reference_in c.args.image.now) (registry_auth c.args.auth.now) c.args.accepted_media_types.now c.pull_verified.result (returns-clause-run g c))

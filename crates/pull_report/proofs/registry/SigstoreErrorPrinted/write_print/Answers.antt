@@ -11,5 +11,8 @@ pub returns-in-RegistryPullManifestError : goal.returns-in-RegistryPullManifestE
 returns-in-RegistryPullManifestError c =
     rw c.in-RegistryPullManifestError.is c.print_row-in-RegistryPullManifestError.ensures
 
+pub returns-in-RegistryPushError : goal.returns-in-RegistryPushError
+returns-in-RegistryPushError c = rw c.in-RegistryPushError.is c.print_row-in-RegistryPushError.ensures
+
 pub returns-in-WantOfMemory : goal.returns-in-WantOfMemory
 returns-in-WantOfMemory c = rw c.in-WantOfMemory.is c.word.ensures

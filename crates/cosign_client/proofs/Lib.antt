@@ -1,0 +1,5 @@
+pub mod KeptStates
+pub mod PushedLayers
+pub mod PushedPayload
+pub mod PushedSignatures
+pub mod SignaturesFound
