@@ -1,6 +1,3 @@
-//! Properties of the responses that one client caches over any number of pulls.
+//! Laws of all calls of the search and of the verified pull: where the responses that a client caches come from. There
+//! is no code here.
 #![tactic(auto)]
-
-mod laws;
-
-pub use laws::cases_extend_the_log;

@@ -32,7 +32,7 @@ use Rattle.engine_rows.specs.Image.{layers_accepted, layer_of}
 use Rattle.registry_calls.specs.declared.error.SigstoreError.{SigstoreError}
 use Rattle.registry_calls.specs.declared.error.SigstoreError.TheVariants as sigstore
 use Rattle.registry_calls.specs.declared.error_context.Called.{Called}
-use Rattle.registry_calls.specs.declared.error_context.Called.TheVariants.{FetchManifest, Pull, PullManifest}
+use Rattle.registry_calls.specs.declared.error_context.Called.TheVariants.{FetchManifest, Pull, PullManifest, Push}
 use Rattle.registry_calls.specs.Error.{is_memory as of_memory}
 use Rattle.registry_calls.specs.ErrorContext.{with_error_context, refusal as call_refusal}
 use Rattle.registry_calls.specs.Clients.{Kept, Row}
@@ -78,6 +78,7 @@ abbrev IsOwn : Called → SigstoreError → Type 0
 IsOwn FetchManifest (sigstore.RegistryFetchManifestError name e) = Unit {0}
 IsOwn Pull (sigstore.RegistryPullError name e) = Unit {0}
 IsOwn PullManifest (sigstore.RegistryPullManifestError name e) = Unit {0}
+IsOwn Push (sigstore.RegistryPushError name e) = Unit {0}
 IsOwn called sigstore.WantOfMemory = Unit {0}
 IsOwn called other = ⊥
 
@@ -85,11 +86,13 @@ own_refusal : (called : Called) (text : List ℕ) (e : OciDistributionError) →
 own_refusal FetchManifest text e = tt
 own_refusal Pull text e = tt
 own_refusal PullManifest text e = tt
+own_refusal Push text e = tt
 
 own_memory : (called : Called) → IsOwn called sigstore.WantOfMemory
 own_memory FetchManifest = tt
 own_memory Pull = tt
 own_memory PullManifest = tt
+own_memory Push = tt
 
 worded_own : {A : Type 0} (called : Called) (text : List ℕ) (r : Result A OciDistributionError) → OnRefusal (IsOwn called) (with_error_context called text r)
 worded_own called text (Ok a) = tt
@@ -152,6 +155,7 @@ with_own text (Err (sigstore.OciReferenceNotValidError t)) h = h
 with_own text (Err (sigstore.RegistryFetchManifestError t e)) h = h
 with_own text (Err (sigstore.RegistryPullError t e)) h = tt
 with_own text (Err (sigstore.RegistryPullManifestError t e)) h = h
+with_own text (Err (sigstore.RegistryPushError t e)) h = h
 with_own text (Err sigstore.WantOfMemory) h = h
 
 entry_call_own : (s : Context) (source : Reference) (a : RegistryAuth) (entry : List ℕ) → Ends (OnRefusal (IsOwn Pull)) (entry_call s source a entry)
@@ -266,6 +270,7 @@ digest_cause s image a start c end (sigstore.OciReferenceNotValidError text) r o
 digest_cause s image a start c end (sigstore.RegistryFetchManifestError name e) r own = r
 digest_cause s image a start c end (sigstore.RegistryPullError name e) r own = absurd own
 digest_cause s image a start c end (sigstore.RegistryPullManifestError name e) r own = absurd own
+digest_cause s image a start c end (sigstore.RegistryPushError name e) r own = absurd own
 digest_cause s image a start c end sigstore.WantOfMemory r own = tt
 
 memory_cause : (s : Context) (image : Reference) (a : RegistryAuth) (start : Snapshot) (c : List Exchange) (end : Snapshot) (e : SigstoreError) → IsMemory e → SearchCause s image a start c end e
@@ -273,6 +278,7 @@ memory_cause s image a start c end (sigstore.OciReferenceNotValidError text) is 
 memory_cause s image a start c end (sigstore.RegistryFetchManifestError name e) is = absurd (cc is)
 memory_cause s image a start c end (sigstore.RegistryPullError name e) is = absurd (cc is)
 memory_cause s image a start c end (sigstore.RegistryPullManifestError name e) is = absurd (cc is)
+memory_cause s image a start c end (sigstore.RegistryPushError name e) is = absurd (cc is)
 memory_cause s image a start c end sigstore.WantOfMemory is = tt
 
 tag_cause : (s : Context) (image : Reference) (a : RegistryAuth) (start : Snapshot) (c : List Exchange) (end : Snapshot) (r : Result TrustedLayers SigstoreError) → OnRefusal IsMemory r → BySearch s image a start c end r
@@ -336,6 +342,7 @@ module _ {V : Type 0} {H : V → Type 0} (policy_context : PolicyContext V H) (s
   lifted_cause start c end (sigstore.RegistryFetchManifestError name e) h = h
   lifted_cause start c end (sigstore.RegistryPullError name e) h = absurd h
   lifted_cause start c end (sigstore.RegistryPullManifestError name e) h = absurd h
+  lifted_cause start c end (sigstore.RegistryPushError name e) h = absurd h
   lifted_cause start c end sigstore.WantOfMemory h = tt
 
   search_part : (start : Snapshot) (c : List Exchange) (end : Snapshot) (r : Result TrustedLayers SigstoreError) → RanBetween (searched policy_context.trust s image a) start c end r → BySearch s image a start c end r → AfterSearch start c end (as_whole r)
@@ -385,6 +392,7 @@ module _ {V : Type 0} {H : V → Type 0} (policy_context : PolicyContext V H) (s
     refused = subst (λ digest. RanBetween (image_row s image (digest_reference image digest) a accepted) between d end (Err (sigstore.RegistryPullError name e))) (sym stands.digest) ran;
   }
   image_part start between end c d found stood (Err (sigstore.RegistryPullManifestError name e)) h stands ran own = absurd own
+  image_part start between end c d found stood (Err (sigstore.RegistryPushError name e)) h stands ran own = absurd own
   image_part start between end c d found stood (Err sigstore.WantOfMemory) h stands ran own = tt
 
   -- why the image is refused, after a search that ended there

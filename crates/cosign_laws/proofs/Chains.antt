@@ -42,7 +42,7 @@ use Rattle.cosign_layers.specs.declared.rejection.LayerRejection.{LayerRejection
 use Rattle.cosign_layers.proofs.Layers.{gives}
 use Rattle.cosign_layers.proofs.SatisfiesPolicy.{stands_for}
 use Rattle.oci_digests.specs.Names.{Names, digest_text}
-use Rattle.oci_digests.specs.declared.digester.Algorithm.TheVariants.{Sha256}
+use Rattle.oci_names.specs.declared.algorithm.Algorithm.TheVariants.{Sha256}
 use Rattle.oci_descriptors.specs.Promise.{Picks}
 use Rattle.oci_descriptors.specs.declared.promise.ResolverPromise.{ResolverPromise}
 use Rattle.cosign_chain.specs.Chain.{Chain, FirstIsManifest, FirstIsIndex, LeadsToManifest}

@@ -59,13 +59,13 @@ Meets-counts {K} {A} {E} {of_memory} Q {p} {old} {new} {k} {l} {r} h met = by_re
 -- ---- a run, as over a transport that exposes nothing
 
 abbrev pub silent : ℕ → Link
-silent faults = record { told = None; rest = None; faults = faults; answers = None }
+silent faults = record { told = None; rest = None; pieces = None; faults = faults; exact = false; answers = None }
 
 none_some : {A P : Type 0} (a : A) → (let o : Option A = None in o) ≡ Some a → P
 none_some a is = absurd (cc is)
 
 steady : (m n : ℕ) → Steady (silent m) (silent n)
-steady m n = record { steady = λ a is. none_some a is; quiet = λ a is never. none_some a is }
+steady m n = record { steady = λ a is. none_some a is; quiet = λ a is never. none_some a is; exact = refl }
 
 untold : (m n : ℕ) (c : List Exchange) → Extends (silent m) (silent n) c
 untold m n c = record { told = λ before is. none_some before is; table = λ a before is told. none_some a is; stays = steady m n }

@@ -13,7 +13,7 @@ use Rattle.oci_manifests.specs.declared.document.OciManifest.TheVariants.{Image,
 use Rattle.oci_manifests.specs.declared.manifest.OciImageManifest.{OciImageManifest}
 use Rattle.engine_terms.specs.declared.error.OciDistributionError.{OciDistributionError}
 use Rattle.engine_terms.specs.declared.error.OciDistributionError.TheVariants as refusal
-use Rattle.engine_terms.specs.Error.{◌>>=◌}
+use Rattle.json_values.specs.Refusals.{◌>>=◌}
 use Rattle.engine_answers.specs.Documents.{plain_of, type_checked, version_checked, versioned_in, or_unread, reads_twice, tables_read, document_read}
 use Rattle.engine_answers.specs.Index.{entry_manifest}
 use Rattle.cosign_chain.specs.Chain.{IsDocument}

@@ -12,7 +12,7 @@ use Rattle.oci_auth.specs.declared.auth_state.AuthState.{AuthState}
 use Rattle.oci_auth.specs.declared.token_type.RegistryOperation.{RegistryOperation}
 use Rattle.oci_auth.specs.declared.token_type.RegistryOperation.TheVariants as operation
 use Rattle.oci_digests.specs.Names.{digest_text}
-use Rattle.oci_digests.specs.declared.digester.Algorithm.TheVariants.{Sha256}
+use Rattle.oci_names.specs.declared.algorithm.Algorithm.TheVariants.{Sha256}
 use Rattle.oci_digests.specs.declared.error.DigestError.TheVariants as digest_refusal
 use Rattle.oci_manifests.specs.declared.document.OciManifest.{OciManifest}
 use Rattle.oci_manifests.specs.declared.document.OciManifest.TheVariants.{Image, ImageIndex}
@@ -50,7 +50,7 @@ use Rattle.engine_laws.proofs.ReferrersCauses.{referrers_causes, referrers_no_si
 use Rattle.registry_calls.specs.declared.error.SigstoreError.{SigstoreError}
 use Rattle.registry_calls.specs.declared.error.SigstoreError.TheVariants as sigstore
 use Rattle.registry_calls.specs.declared.error_context.Called.{Called}
-use Rattle.registry_calls.specs.declared.error_context.Called.TheVariants.{FetchManifest, Pull, PullManifest}
+use Rattle.registry_calls.specs.declared.error_context.Called.TheVariants.{FetchManifest, Pull, PullManifest, Push}
 use Rattle.registry_calls.specs.Error.{is_memory}
 use Rattle.registry_calls.specs.ErrorContext.{with_error_context, refusal as call_refusal}
 use Rattle.registry_cache.specs.Keys.{manifest_key, pull_key, referrers_key}
@@ -161,11 +161,13 @@ in_called : (called : Called) (text : List ℕ) (e : OciDistributionError) → i
 in_called FetchManifest text e = refl
 in_called Pull text e = refl
 in_called PullManifest text e = refl
+in_called Push text e = refl
 
 called_fault : (called : Called) (text : List ℕ) (e : OciDistributionError) → is_refused_fault (call_refusal called text e) ≡ is_engine_fault e
 called_fault FetchManifest text e = refl
 called_fault Pull text e = refl
 called_fault PullManifest text e = refl
+called_fault Push text e = refl
 
 pub worded_counts : {A : Type 0} (called : Called) (text : List ℕ) (m n : ℕ) (r : Result A OciDistributionError) → EngineCounts m n r → CallCounts m n (with_error_context called text r)
 worded_counts called text m n (Ok a) h = h
@@ -467,6 +469,7 @@ refused_quiet P (sigstore.OciReferenceNotValidError text) = tt
 refused_quiet P (sigstore.RegistryFetchManifestError name e) = tt
 refused_quiet P (sigstore.RegistryPullError name e) = tt
 refused_quiet P (sigstore.RegistryPullManifestError name e) = tt
+refused_quiet P (sigstore.RegistryPushError name e) = tt
 refused_quiet P sigstore.WantOfMemory = tt
 
 abbrev PartCounts : ℕ → ℕ → Result TrustedLayers PullRefusal → Type 0

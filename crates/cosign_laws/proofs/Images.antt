@@ -9,7 +9,7 @@ use Rattle.oci_auth.specs.declared.auth.RegistryAuth.{RegistryAuth}
 use Rattle.oci_digests.specs.Names.{Names, digest_text}
 use Rattle.oci_digests.specs.Checks.{checked, checked_by, and_then}
 use Rattle.oci_digests.specs.Checks.{named_algorithm}
-use Rattle.oci_digests.specs.declared.digester.Algorithm.{Algorithm}
+use Rattle.oci_names.specs.declared.algorithm.Algorithm.{Algorithm}
 use Rattle.oci_digests.specs.declared.error.DigestError.{DigestError}
 use Rattle.oci_digests.specs.declared.error.DigestError.TheVariants as digest_refusal
 use Rattle.oci_manifests.specs.declared.document.OciManifest.{OciManifest}
@@ -263,6 +263,7 @@ with_seen P text m n o c (Err (sigstore.OciReferenceNotValidError t)) h = tt
 with_seen P text m n o c (Err (sigstore.RegistryFetchManifestError t e)) h = tt
 with_seen P text m n o c (Err (sigstore.RegistryPullError t e)) h = tt
 with_seen P text m n o c (Err (sigstore.RegistryPullManifestError t e)) h = tt
+with_seen P text m n o c (Err (sigstore.RegistryPushError t e)) h = tt
 with_seen P text m n o c (Err sigstore.WantOfMemory) h = tt
 
 entry_call_shows : (s : Context) (source : Reference) (a : RegistryAuth) (entry : List ℕ) → EveryRun (Seen (IsDocument (entry_reference source entry))) (entry_call s source a entry)

@@ -9,7 +9,10 @@ pub mod DocumentTexts
 pub mod Entries
 pub mod Faults
 pub mod Images
+pub mod KeptAnswers
 pub mod Meanings
+pub mod PlainClients
+pub mod PullRows
 pub mod Refusals
 pub mod ShelfCalls
 pub mod ShelfPulls

@@ -10,8 +10,9 @@ use Rattle.oci_auth.specs.declared.auth.RegistryAuth.{RegistryAuth}
 use Rattle.oci_auth.specs.declared.auth_state.AuthState.{AuthState}
 use Rattle.oci_digests.specs.Checks.{checked, checked_by, and_then}
 use Rattle.oci_digests.specs.Names.{digest_text}
-use Rattle.oci_digests.specs.Checks.{parts_of, algorithm_of, named_by}
-use Rattle.oci_digests.specs.declared.digester.Algorithm.{Algorithm}
+use Rattle.oci_digests.specs.Checks.{parts_of, named_by}
+use Rattle.oci_names.specs.Algorithms.{algorithm_of}
+use Rattle.oci_names.specs.declared.algorithm.Algorithm.{Algorithm}
 use Rattle.oci_digests.specs.declared.error.DigestError.TheVariants as digest_refusal
 use Rattle.oci_manifests.specs.Types.{is_manifest_type}
 use Rattle.oci_manifests.specs.Document.{document_of}
@@ -34,7 +35,8 @@ use Rattle.engine_terms.specs.declared.error.OciDistributionError.{OciDistributi
 use Rattle.engine_terms.specs.declared.error.OciDistributionError.TheVariants as engine_refusal
 use Rattle.engine_answers.specs.Answers.{or_digest_error}
 use Rattle.engine_answers.specs.Documents.{plain_of, type_checked, version_checked, versioned_in, or_unread, reads_twice, tables_read, document_read}
-use Rattle.engine_terms.specs.Error.{is_memory as engine_is_memory, ◌>>=◌ as ◌before◌}
+use Rattle.json_values.specs.Refusals.{◌>>=◌ as ◌before◌}
+use Rattle.engine_terms.specs.Error.{is_memory as engine_is_memory}
 use Rattle.engine_requests.specs.Requests.{manifest_types}
 use Rattle.engine_answers.specs.Index.{entry_named, entry_found, entry_manifest, entry_reference}
 use Rattle.oci_descriptors.specs.Promise.{lists, resolved}
@@ -55,7 +57,7 @@ use Rattle.engine_laws.proofs.DigestCauses.{digest_causes}
 use Rattle.registry_calls.specs.declared.error.SigstoreError.{SigstoreError}
 use Rattle.registry_calls.specs.declared.error.SigstoreError.TheVariants as sigstore
 use Rattle.registry_calls.specs.declared.error_context.Called.TheVariants.{FetchManifest, Pull}
-use Rattle.registry_calls.specs.Error.{is_memory, registry_refusal, FaultCounted as SearchFaultCounted, NoSinkFault as NoSinkInSearch}
+use Rattle.registry_calls.specs.Error.{is_memory, registry_refusal, FaultCounted, NoSinkFault}
 use Rattle.registry_calls.specs.ErrorContext.{with_error_context}
 use Rattle.registry_calls.specs.Clients.{Kept, Row}
 use Rattle.registry_cache.specs.Keys.{manifest_key}
@@ -68,7 +70,7 @@ use Rattle.cosign_chain.specs.declared.image.VerifiedImage.{VerifiedImage}
 use Rattle.cosign_rows.specs.Image.{named_by_reference, document_in, entry_in, with_image, layers_row, blobs_row, entry_call, entry_row, manifest_row, image_row}
 use Rattle.cosign_rows.specs.Part.{nothing, skipping, appended}
 use Rattle.cosign_rows.specs.References.{tag_reference, digest_reference, or_not_valid, reading_back}
-use Rattle.cosign_rows.specs.Refusal.{is_memory as of_refusal, refused_as, client_refusal, FaultCounted, NoSinkFault}
+use Rattle.cosign_rows.specs.Refusal.{is_memory as of_refusal, refused_as, client_refusal}
 use Rattle.cosign_rows.specs.Search.{payload_type, document_part, tag_layers, or_skipped, tag_by, tag_source, bundle_type, referrer_part, referrer_by, referrer_row, referrers_row, listed_row, referrers_source, trusted_layers, searched}
 use Rattle.cosign_rows.specs.Skips.{in_engine, is_engine_fault}
 use Rattle.cosign_rows.specs.Tails.{after_search}
@@ -276,6 +278,7 @@ with_counts text m n (Err (sigstore.OciReferenceNotValidError t)) h = h
 with_counts text m n (Err (sigstore.RegistryFetchManifestError t e)) h = h
 with_counts text m n (Err (sigstore.RegistryPullError t e)) h = record { falls = h.falls; no_memory = h.no_memory; fault = h.fault }
 with_counts text m n (Err (sigstore.RegistryPullManifestError t e)) h = h
+with_counts text m n (Err (sigstore.RegistryPushError t e)) h = h
 with_counts text m n (Err sigstore.WantOfMemory) h = h
 
 entry_call_counts : (s : Context) (source : Reference) (a : RegistryAuth) (entry : List ℕ) → Counts CallCounts (entry_call s source a entry)
@@ -375,6 +378,7 @@ words_fault m n (sigstore.OciReferenceNotValidError text) h is = absurd (cc is)
 words_fault m n (sigstore.RegistryFetchManifestError image e) h is = let same : e ≡ engine_refusal.TransportFault = cc is in h.fault (ap is_engine_fault same)
 words_fault m n (sigstore.RegistryPullError image e) h is = let same : e ≡ engine_refusal.TransportFault = cc is in h.fault (ap is_engine_fault same)
 words_fault m n (sigstore.RegistryPullManifestError image e) h is = let same : e ≡ engine_refusal.TransportFault = cc is in h.fault (ap is_engine_fault same)
+words_fault m n (sigstore.RegistryPushError image e) h is = let same : e ≡ engine_refusal.TransportFault = cc is in h.fault (ap is_engine_fault same)
 words_fault m n sigstore.WantOfMemory h is = absurd (cc is)
 
 sink_held : (e : OciDistributionError) → in_engine e ≡ false → Some e ≡ Some engine_refusal.SinkFault → ⊥
@@ -385,6 +389,7 @@ words_sink m n (sigstore.OciReferenceNotValidError text) h is = absurd (cc is)
 words_sink m n (sigstore.RegistryFetchManifestError image e) h is = sink_held e (h.no_memory refl) is
 words_sink m n (sigstore.RegistryPullError image e) h is = sink_held e (h.no_memory refl) is
 words_sink m n (sigstore.RegistryPullManifestError image e) h is = sink_held e (h.no_memory refl) is
+words_sink m n (sigstore.RegistryPushError image e) h is = sink_held e (h.no_memory refl) is
 words_sink m n sigstore.WantOfMemory h is = absurd (cc is)
 
 -- memory ran out, or the property holds for the error
@@ -397,12 +402,13 @@ search_said P m n x (sigstore.OciReferenceNotValidError text) so h is = so h is
 search_said P m n x (sigstore.RegistryFetchManifestError image e) so h is = so h is
 search_said P m n x (sigstore.RegistryPullError image e) so h is = so h is
 search_said P m n x (sigstore.RegistryPullManifestError image e) so h is = so h is
+search_said P m n x (sigstore.RegistryPushError image e) so h is = so h is
 
-pub search_fault : (trust : Trust) (s : Context) (image : Reference) (a : RegistryAuth) {old new : Link} {k l : Kept} (r : Result TrustedLayers SigstoreError) → Meets is_memory (searched trust s image a) old new k l r → SearchFaultCounted old new r
+pub search_fault : (trust : Trust) (s : Context) (image : Reference) (a : RegistryAuth) {old new : Link} {k l : Kept} (r : Result TrustedLayers SigstoreError) → Meets is_memory (searched trust s image a) old new k l r → FaultCounted registry_refusal old new r
 search_fault trust s image a (Ok found) met held = absurd held
 search_fault trust s image a {old} {new} (Err e) met held = search_said (λ x. Increased old.faults new.faults) old.faults new.faults engine_refusal.TransportFault e (words_fault old.faults new.faults e) (Meets-counts CallCounts (search_counts trust s image a) met) held
 
-pub search_no_sink : (trust : Trust) (s : Context) (image : Reference) (a : RegistryAuth) {old new : Link} {k l : Kept} (r : Result TrustedLayers SigstoreError) → Meets is_memory (searched trust s image a) old new k l r → NoSinkInSearch r
+pub search_no_sink : (trust : Trust) (s : Context) (image : Reference) (a : RegistryAuth) {old new : Link} {k l : Kept} (r : Result TrustedLayers SigstoreError) → Meets is_memory (searched trust s image a) old new k l r → NoSinkFault registry_refusal r
 search_no_sink trust s image a (Ok found) met held = held
 search_no_sink trust s image a {old} {new} (Err e) met held = search_said (λ x. ⊥) old.faults new.faults engine_refusal.SinkFault e (words_sink old.faults new.faults e) (Meets-counts CallCounts (search_counts trust s image a) met) held
 
@@ -422,6 +428,7 @@ as_counts m n (sigstore.OciReferenceNotValidError text) h = record { falls = h.f
 as_counts m n (sigstore.RegistryFetchManifestError image e) h = record { falls = h.falls; fault = words_fault m n (sigstore.RegistryFetchManifestError image e) h; no_sink = words_sink m n (sigstore.RegistryFetchManifestError image e) h }
 as_counts m n (sigstore.RegistryPullError image e) h = record { falls = h.falls; fault = words_fault m n (sigstore.RegistryPullError image e) h; no_sink = words_sink m n (sigstore.RegistryPullError image e) h }
 as_counts m n (sigstore.RegistryPullManifestError image e) h = record { falls = h.falls; fault = words_fault m n (sigstore.RegistryPullManifestError image e) h; no_sink = words_sink m n (sigstore.RegistryPullManifestError image e) h }
+as_counts m n (sigstore.RegistryPushError image e) h = record { falls = h.falls; fault = words_fault m n (sigstore.RegistryPushError image e) h; no_sink = words_sink m n (sigstore.RegistryPushError image e) h }
 as_counts m n sigstore.WantOfMemory h = record { falls = h.falls; fault = λ is. absurd (cc is); no_sink = λ is. cc is }
 
 whole_counts : {A : Type 0} (m n : ℕ) (r : Result A SigstoreError) → CallCounts m n r → WholeCounts m n (as_whole r)
@@ -487,10 +494,10 @@ module _ {V : Type 0} {H : V → Type 0} (policy_context : PolicyContext V H) (s
   pull_said P m n x (refusal.RegistryPullError name e) so h is = so h is
   pull_said P m n x (refusal.Unsatisfied digest collected skipped) so h is = so h is
 
-  pub pull_fault : {old new : Link} {k l : Kept} (r : Result VerifiedImage PullRefusal) → Meets of_refusal (verified policy_context s image a accepted) old new k l r → FaultCounted old new r
+  pub pull_fault : {old new : Link} {k l : Kept} (r : Result VerifiedImage PullRefusal) → Meets of_refusal (verified policy_context s image a accepted) old new k l r → FaultCounted client_refusal old new r
   pull_fault (Ok v) met held = absurd held
   pull_fault {old} {new} (Err e) met held = pull_said (λ x. Increased old.faults new.faults) old.faults new.faults engine_refusal.TransportFault e (λ h is. h.fault is) (Meets-counts WholeCounts pull_counts met) held
 
-  pub pull_no_sink : {old new : Link} {k l : Kept} (r : Result VerifiedImage PullRefusal) → Meets of_refusal (verified policy_context s image a accepted) old new k l r → NoSinkFault r
+  pub pull_no_sink : {old new : Link} {k l : Kept} (r : Result VerifiedImage PullRefusal) → Meets of_refusal (verified policy_context s image a accepted) old new k l r → NoSinkFault client_refusal r
   pull_no_sink (Ok v) met held = held
   pull_no_sink {old} {new} (Err e) met held = pull_said (λ x. ⊥) old.faults new.faults engine_refusal.SinkFault e (λ h is. h.no_sink is) (Meets-counts WholeCounts pull_counts met) held

@@ -1,12 +1,9 @@
--- Cached calls over a shelf: if the cache holds only what the shelf returns before, it does so after.
-use Rattle.std.specs.Prelude.{bytes_eq, not, find, filter, option_map, option_and_then, if◌then◌else◌}
-use Rattle.std.proofs.Common.{◌≡◌, ℕ, Bool, true, false, cond, ◌&&◌, List, [], ◌∷◌, ◌++◌, All, Option, Some, None, Result, Ok, Err, refl, sym, ap, subst, ◌∙◌}
-use Rattle.std.proofs.lemmas.Bool.{cond_both}
-use Rattle.std.proofs.lemmas.List.Elements.{All-nil, All-head, All-tail, All-push, All-filter}
+-- Cached calls over a shelf return what it returns to the uncached ones.
+use Rattle.std.specs.Prelude.{bytes_eq, find, option_and_then, if◌then◌else◌}
+use Rattle.std.proofs.Common.{◌≡◌, ℕ, Bool, true, false, cond, ◌&&◌, List, [], ◌∷◌, All, Option, Some, None, Result, Ok, Err, refl, sym, subst}
+use Rattle.std.proofs.lemmas.List.Elements.{All-nil, All-head, All-tail}
 use Rattle.std.proofs.lemmas.Slice.Eq.{bytes_eq-Decides}
-use Rattle.oci_names.proofs.ReadsBack.{reads_back-means}
-use Rattle.oci_names.specs.Reference.{reads_back, whole_text, reference_of, resolved_registry, repository_of}
-use Rattle.oci_names.specs.declared.parse_error.ParseError.{ParseError}
+use Rattle.oci_names.specs.Reference.{reads_back, resolved_registry, repository_of}
 use Rattle.oci_names.specs.declared.reference.Reference.{Reference}
 use Rattle.oci_auth.specs.declared.auth.RegistryAuth.{RegistryAuth}
 use Rattle.oci_auth.specs.AuthState.{fresh as new}
@@ -20,18 +17,16 @@ use Rattle.oci_link.specs.declared.shelf.Shelf.{Shelf}
 use Rattle.engine_rows.specs.declared.image.ImageData.{ImageData}
 use Rattle.engine_terms.specs.Contexts.{within}
 use Rattle.engine_terms.specs.declared.settings.Settings.{Settings}
-use Rattle.shelf_laws.specs.EvaluatesWith.{EvaluatesWith, EvaluatesTo, Yields, AlwaysOk, Preserves}
+use Rattle.shelf_laws.specs.EvaluatesWith.{EvaluatesWith, EvaluatesTo, Yields, AlwaysOk}
 use Rattle.shelf_laws.specs.IsHosted.{IsAt, Settled}
-use Rattle.shelf_laws.proofs.TableSteps.{EvaluatesWith-more, EvaluatesWith-bind}
+use Rattle.shelf_laws.proofs.TableSteps.{EvaluatesWith-bind}
 use Rattle.shelf_laws.proofs.Tokens.{fresh_settled}
-use Rattle.shelf_laws.proofs.WiderRows.{EvaluatesWith-lifted, EvaluatesWith-itself, EvaluatesTo-is, AlwaysOk-lifted, Preserves-lifted}
+use Rattle.shelf_laws.proofs.WiderRows.{EvaluatesWith-lifted, EvaluatesWith-itself, EvaluatesTo-is, AlwaysOk-lifted}
 use Rattle.registry_cache.specs.Keys.{manifest_key, pull_key, referrers_key}
-use Rattle.registry_cache.proofs.Tells.{manifest_keys_tell, pull_keys_tell, referrers_keys_tell}
-use Rattle.registry_cache.specs.Answers.{is_of, is_fresh, same_kind, kind_of, given_at, keep, entry, within as in_bounds}
+use Rattle.registry_cache.specs.Answers.{is_of, is_fresh, same_kind, kind_of, given_at, entry}
 use Rattle.registry_cache.specs.declared.answer.Answer.{Answer}
 use Rattle.registry_cache.specs.declared.answer.Answer.TheVariants.{Digest, Manifest, Image, Referrers}
 use Rattle.registry_cache.specs.declared.answers.Answers.{Answers}
-use Rattle.registry_cache.specs.declared.answers.Bounds.{Bounds}
 use Rattle.registry_cache.specs.declared.answers.Entry.{Entry}
 use Rattle.registry_calls.specs.Caching.{keeping, known_or, recalled, cached}
 use Rattle.registry_cache.specs.Caching.{Cache, known}
@@ -41,15 +36,8 @@ use Rattle.registry_calls.specs.Clients.{Kept, Plain}
 use Rattle.registry_calls.specs.declared.error.SigstoreError.{SigstoreError}
 use Rattle.registry_calls.specs.Clients.{no_answers}
 use Rattle.cosign_shelves.specs.Settled.{IsGiven, IsOf, IsAnswer, IsFromShelf, AreFromShelf, IsSettled}
-
--- ---- texts of references
-
-read_same : (x y : Reference) → ◌≡◌ {A = Result Reference ParseError} (Ok x) (Ok y) → x ≡ y
-read_same x y is = cc
-
--- references that round-trip are determined by their texts
-same_image : (x y : Reference) → reads_back x ≡ true → reads_back y ≡ true → whole_text x ≡ whole_text y → x ≡ y
-same_image x y is also same = read_same x y (sym (reads_back-means x is) ∙ ap reference_of same ∙ reads_back-means y also)
+use Rattle.cosign_laws.proofs.KeptAnswers.{kept_right, digest_keeps, manifest_keeps, image_keeps, referrers_keep}
+use Rattle.shelf_laws.proofs.ShelfRows.{IsIn}
 
 -- ---- entries
 
@@ -64,10 +52,6 @@ found_all P p (x ∷ es) e all is = by_test (p x) refl is (found_all P p es e (A
   by_test true passes here later = let same : x ≡ e = cc here in subst (λ (y : Entry). P y × (p y ≡ true)) same (All-head P x es all, passes)
   by_test false fails there later = later there
 
-bounded_all : (P : Entry → Type 0) (bounds : Option Bounds) (es : List Entry) → All P es → All P (in_bounds bounds es)
-bounded_all P bounds [] all = all
-bounded_all P bounds (e ∷ es) all = cond_both _ (e ∷ es) (in_bounds bounds es) (All P) (λ fits. all) (λ more. bounded_all P bounds es (All-tail P e es all))
-
 module _ (s : Settings) (registry : List ℕ) (a : RegistryAuth) (shelf : Shelf) where
   abbrev J : AuthState → Type 0
   J k = Settled registry shelf.repository a k
@@ -80,12 +64,6 @@ module _ (s : Settings) (registry : List ℕ) (a : RegistryAuth) (shelf : Shelf)
 
   abbrev Given : {A : Type 0} → (ℕ → Plain A) → A → Type 0
   Given call x = IsGiven registry a shelf call x
-
-  kept_right : (e : Entry) (answers : Option Answers) → R answers → IsFromShelf s registry a shelf e → R (option_map (keep e) answers)
-  kept_right e None are is = tt
-  kept_right e (Some k) are is =
-      let others : List Entry = filter (λ other. not (is_of (kind_of e.answer) e.key other)) k.entries in
-      bounded_all (IsFromShelf s registry a shelf) k.bounds (others ++ e ∷ []) (All-push (IsFromShelf s registry a shelf) others e (All-filter (λ other. not (is_of (kind_of e.answer) e.key other)) (IsFromShelf s registry a shelf) k.entries are) is)
 
   -- the cached responses of a call are its responses
   record Caches {A : Type 0} (cache : Cache A) (key : List ℕ) (call : ℕ → Plain A) : Type 0 where
@@ -119,7 +97,7 @@ module _ (s : Settings) (registry : List ℕ) (a : RegistryAuth) (shelf : Shelf)
         by_result : (l : Kept) (r : Result A SigstoreError) → ((J l.0 × Q r) × EvaluatesTo (answer shelf) (call now) k.0 r) × (l.1 ≡ k.1) → EvaluatesWith (answer shelf) (λ l r. I l × Q r) (unless_refused (λ x. keeping cache key now x >> Done (Ok x)) r) l
         by_result l (Ok x) ((found, comes), same) =
             let given : Given call x = record { moment = now; kept = k.0; settled = is.0; comes = comes } in
-            ((found.0, kept_right (entry key now (cache.kept_as x)) l.1 (subst R (sym same) is.1) (caches.keeps x given)), found.1)
+            ((found.0, kept_right s registry a shelf (entry key now (cache.kept_as x)) l.1 (subst R (sym same) is.1) (caches.keeps x given)), found.1)
         by_result l (Err e) ((found, comes), same) = ((found.0, subst R (sym same) is.1), found.1)
 
     recalled_comes : (Q : Result A SigstoreError → Type 0) (k : Kept) → I k → ((x : A) → Given call x → Q (Ok x)) → EvaluatesWith (answer shelf) (λ l r. J l × Q r) (call now) k.0 → EvaluatesWith (answer shelf) (λ l r. I l × Q r) (recalled cache key now (call now)) k
@@ -135,31 +113,24 @@ module _ (s : Settings) (registry : List ℕ) (a : RegistryAuth) (shelf : Shelf)
     recalled_gives : {P : A → Type 0} → ((m : ℕ) → AlwaysOk J (answer shelf) P (call m)) → AlwaysOk I (answer shelf) P (recalled cache key now (call now))
     recalled_gives {P} h = record { gives = λ k is. recalled_comes (Yields P) k is (given_is h) ((h now).gives k.0 is.0) }
 
-    recalled_stays : Preserves J (answer shelf) (call now) → Preserves I (answer shelf) (recalled cache key now (call now))
-    recalled_stays h = record {
-      stays = λ k is. EvaluatesWith-more (answer shelf) (λ l r. I l × Unit {0}) (λ l r. I l) (recalled cache key now (call now)) k
-          (recalled_comes (λ r. Unit {0}) k is (λ x g. tt) (EvaluatesWith-more (answer shelf) (λ l r. J l) (λ l r. J l × Unit {0}) (call now) k.0 (h.stays k.0 is.0) (λ l r stays. (stays, tt)))) (λ l r found. found.0);
-    }
-
   module _ {A : Type 0} {cache : Cache A} {key : List ℕ} {call : ℕ → Plain A} where
     cached_gives : {P : A → Type 0} (b : Bool) → (b ≡ true → Caches cache key call) → (now : ℕ) → ((m : ℕ) → AlwaysOk J (answer shelf) P (call m)) → AlwaysOk I (answer shelf) P (cached b cache key now (call now))
     cached_gives true caches now h = recalled_gives (caches refl) now h
     cached_gives false caches now h = AlwaysOk-lifted R (h now)
 
-    cached_stays : (b : Bool) → (b ≡ true → Caches cache key call) → (now : ℕ) → Preserves J (answer shelf) (call now) → Preserves I (answer shelf) (cached b cache key now (call now))
-    cached_stays true caches now h = recalled_stays (caches refl) now h
-    cached_stays false caches now h = Preserves-lifted R h
-
   -- ---- the four calls
 
   module _ (image : Reference) (at : IsAt registry shelf image) where
+    in_it : IsIn registry shelf.repository image
+    in_it = record { registry_is = at.registry_is; repository_is = at.repository_is; no_mirror = at.no_mirror }
+
     of_image : reads_back image ≡ true → IsOf registry shelf image
     of_image reads = record { reads = reads; at = at }
 
     digest_caches : reads_back image ≡ true → Caches digests (manifest_key image a) (λ m. digest_made (within s m) image a)
     digest_caches reads = record {
       knows = knows;
-      keeps = λ x given other is same. subst (λ (r : Reference). Given (λ m. digest_made (within s m) r a) x) (same_image image other reads is.reads (sym ((manifest_keys_tell other image a a).0 same).0)) given;
+      keeps = λ x given. (digest_keeps s registry a shelf shelf.repository image in_it reads).keeps x (λ own. given);
     } where
       knows : (o : Answer) (x : List ℕ) → IsAnswer s registry a shelf (manifest_key image a) o → digests.read o ≡ Some x → Given (λ m. digest_made (within s m) image a) x
       knows (Digest digest) x is read = let same : digest ≡ x = cc read in subst (Given (λ m. digest_made (within s m) image a)) same (is image (of_image reads) refl)
@@ -170,7 +141,7 @@ module _ (s : Settings) (registry : List ℕ) (a : RegistryAuth) (shelf : Shelf)
     manifest_caches : reads_back image ≡ true → Caches manifests (manifest_key image a) (λ m. manifest_made (within s m) image a)
     manifest_caches reads = record {
       knows = knows;
-      keeps = λ x given other is same. subst (λ (r : Reference). Given (λ m. manifest_made (within s m) r a) x) (same_image image other reads is.reads (sym ((manifest_keys_tell other image a a).0 same).0)) given;
+      keeps = λ x given. (manifest_keeps s registry a shelf shelf.repository image in_it reads).keeps x (λ own. given);
     } where
       knows : (o : Answer) (x : OciManifest × List ℕ) → IsAnswer s registry a shelf (manifest_key image a) o → manifests.read o ≡ Some x → Given (λ m. manifest_made (within s m) image a) x
       knows (Manifest document digest) x is read = let same : (document, digest) ≡ x = cc read in subst (Given (λ m. manifest_made (within s m) image a)) same (is image (of_image reads) refl)
@@ -181,9 +152,7 @@ module _ (s : Settings) (registry : List ℕ) (a : RegistryAuth) (shelf : Shelf)
     image_caches : (accepted : List (List ℕ)) → reads_back image ≡ true → Caches images (pull_key image a accepted) (λ m. image_made (within s m) image a accepted)
     image_caches accepted reads = record {
       knows = knows;
-      keeps = λ x given other kinds is same. let told = (pull_keys_tell other image a a kinds accepted).0 same in
-          subst (λ (types : List (List ℕ)). Given (λ m. image_made (within s m) other a types) x) (sym told.2)
-          (subst (λ (r : Reference). Given (λ m. image_made (within s m) r a accepted) x) (same_image image other reads is.reads (sym told.0)) given);
+      keeps = λ x given. (image_keeps s registry a shelf shelf.repository image in_it accepted reads).keeps x (λ own. given);
     } where
       knows : (o : Answer) (x : ImageData) → IsAnswer s registry a shelf (pull_key image a accepted) o → images.read o ≡ Some x → Given (λ m. image_made (within s m) image a accepted) x
       knows (Image given) x is read = let same : given ≡ x = cc read in subst (Given (λ m. image_made (within s m) image a accepted)) same (is image accepted (of_image reads) refl)
@@ -194,9 +163,7 @@ module _ (s : Settings) (registry : List ℕ) (a : RegistryAuth) (shelf : Shelf)
     referrers_caches : (kind : Option (List ℕ)) → reads_back image ≡ true → Caches referrers (referrers_key image a kind) (λ m. referrers_made (within s m) image a kind)
     referrers_caches kind reads = record {
       knows = knows;
-      keeps = λ x given other type is same. let told = (referrers_keys_tell other image a a type kind).0 same in
-          subst (λ (t : Option (List ℕ)). Given (λ m. referrers_made (within s m) other a t) x) (sym told.2)
-          (subst (λ (r : Reference). Given (λ m. referrers_made (within s m) r a kind) x) (same_image image other reads is.reads (sym told.0)) given);
+      keeps = λ x given. (referrers_keep s registry a shelf shelf.repository image in_it kind reads).keeps x (λ own. given);
     } where
       knows : (o : Answer) (x : OciImageIndex) → IsAnswer s registry a shelf (referrers_key image a kind) o → referrers.read o ≡ Some x → Given (λ m. referrers_made (within s m) image a kind) x
       knows (Referrers index) x is read = let same : index ≡ x = cc read in subst (Given (λ m. referrers_made (within s m) image a kind)) same (is image kind (of_image reads) refl)
@@ -209,33 +176,17 @@ module _ (s : Settings) (registry : List ℕ) (a : RegistryAuth) (shelf : Shelf)
     unfolding digest_call
     digest_given now h = cached_gives (reads_back image) digest_caches now h
 
-    pub digest_settled : (now : ℕ) → Preserves J (answer shelf) (digest_made (within s now) image a) → Preserves I (answer shelf) (digest_call (within s now) image a)
-    unfolding digest_call
-    digest_settled now h = cached_stays (reads_back image) digest_caches now h
-
     pub manifest_given : {P : OciManifest × List ℕ → Type 0} (now : ℕ) → ((m : ℕ) → AlwaysOk J (answer shelf) P (manifest_made (within s m) image a)) → AlwaysOk I (answer shelf) P (manifest_call (within s now) image a)
     unfolding manifest_call
     manifest_given now h = cached_gives (reads_back image) manifest_caches now h
-
-    pub manifest_settled : (now : ℕ) → Preserves J (answer shelf) (manifest_made (within s now) image a) → Preserves I (answer shelf) (manifest_call (within s now) image a)
-    unfolding manifest_call
-    manifest_settled now h = cached_stays (reads_back image) manifest_caches now h
 
     pub image_given : {P : ImageData → Type 0} (accepted : List (List ℕ)) (now : ℕ) → ((m : ℕ) → AlwaysOk J (answer shelf) P (image_made (within s m) image a accepted)) → AlwaysOk I (answer shelf) P (image_call (within s now) image a accepted)
     unfolding image_call
     image_given accepted now h = cached_gives (reads_back image) (image_caches accepted) now h
 
-    pub image_settled : (accepted : List (List ℕ)) (now : ℕ) → Preserves J (answer shelf) (image_made (within s now) image a accepted) → Preserves I (answer shelf) (image_call (within s now) image a accepted)
-    unfolding image_call
-    image_settled accepted now h = cached_stays (reads_back image) (image_caches accepted) now h
-
     pub referrers_given : {P : OciImageIndex → Type 0} (kind : Option (List ℕ)) (now : ℕ) → ((m : ℕ) → AlwaysOk J (answer shelf) P (referrers_made (within s m) image a kind)) → AlwaysOk I (answer shelf) P (referrers_call (within s now) image a kind)
     unfolding referrers_call
     referrers_given kind now h = cached_gives (reads_back image) (referrers_caches kind) now h
-
-    pub referrers_settled : (kind : Option (List ℕ)) (now : ℕ) → Preserves J (answer shelf) (referrers_made (within s now) image a kind) → Preserves I (answer shelf) (referrers_call (within s now) image a kind)
-    unfolding referrers_call
-    referrers_settled kind now h = cached_stays (reads_back image) (referrers_caches kind) now h
 
 -- a client that keeps nothing yet is settled
 pub new_settled : (s : Settings) (image : Reference) (a : RegistryAuth) (shelf : Shelf) (default : ℕ) (caching : Bool) → IsSettled s image a shelf (new default, no_answers caching)

@@ -8,12 +8,12 @@ use Rattle.std.proofs.lemmas.List.Elements.{All-head, All-tail}
 use Rattle.oci_names.specs.Grammar.{is_digest}
 use Rattle.oci_names.specs.Parts.{digest_refusal}
 use Rattle.oci_names.specs.Words.{Tag}
-use Rattle.oci_names.specs.Reference.{digest_of, whole_text, resolved_registry, reads_back}
+use Rattle.oci_names.specs.Reference.{digest_of, whole_text, repository_of, resolved_registry, reads_back}
 use Rattle.oci_names.specs.declared.reference.Reference.{Reference}
 use Rattle.oci_auth.specs.declared.auth.RegistryAuth.{RegistryAuth}
 use Rattle.oci_auth.specs.declared.auth_state.AuthState.{AuthState}
 use Rattle.oci_digests.specs.Names.{Names, digest_text}
-use Rattle.oci_digests.specs.declared.digester.Algorithm.TheVariants.{Sha256}
+use Rattle.oci_names.specs.declared.algorithm.Algorithm.TheVariants.{Sha256}
 use Rattle.oci_digests.proofs.ExactChecks.{is_validated}
 use Rattle.oci_manifests.specs.declared.document.OciManifest.{OciManifest}
 use Rattle.oci_manifests.specs.declared.document.OciManifest.TheVariants.{Image, ImageIndex}
@@ -35,7 +35,7 @@ use Rattle.oci_link.specs.declared.shelf.Shelf.{Shelf}
 use Rattle.engine_answers.specs.Answers.{or_digest_error}
 use Rattle.engine_terms.specs.Contexts.{Context, within}
 use Rattle.engine_answers.specs.Documents.{document_read}
-use Rattle.engine_terms.specs.Error.{◌>>=◌ as ◌before◌, ◌>>◌ as ◌and◌}
+use Rattle.json_values.specs.Refusals.{◌>>=◌ as ◌before◌, ◌>>◌ as ◌and◌}
 use Rattle.engine_answers.specs.Index.{entry_found, entry_manifest, entry_reference}
 use Rattle.engine_requests.specs.Requests.{manifest_types}
 use Rattle.engine_requests.specs.Sources.{Layer, described}
@@ -62,7 +62,8 @@ use Rattle.shelf_laws.proofs.Documents.{NoOther, raw_gives, digest_gives, blob_g
 use Rattle.shelf_laws.proofs.Images.{Points, points_itself, types_accepted, manifest_gives, pull_gives}
 use Rattle.shelf_laws.proofs.PlainNames.{tag_segment}
 use Rattle.shelf_laws.proofs.ShelfReferences.{tag_named, image_points}
-use Rattle.shelf_laws.proofs.References.{Spelled, spelled, tag_reads_back, digest_reads_back, digest_is_digest, digest_is_known}
+use Rattle.shelf_laws.proofs.References.{Spelled, spelled, tag_reads_back, digest_reads_back}
+use Rattle.oci_digests.proofs.Algorithms.{digest_is_digest, digest_is_known}
 use Rattle.shelf_laws.proofs.Requests.{yields_ok}
 use Rattle.shelf_laws.proofs.ReferrersOfShelf.{referrers_give}
 use Rattle.shelf_laws.proofs.WiderRows.{AlwaysOk-lifted}
@@ -92,7 +93,10 @@ use Rattle.cosign_rows.specs.declared.refusal.PullRefusal.{PullRefusal}
 use Rattle.cosign_rows.specs.declared.refusal.PullRefusal.TheVariants as refusal
 use Rattle.cosign_shelves.specs.Shelves.{IsAsked, SignedByTag, SignedByReferrer, ImageShelf, WideShelf, ValidShelf, AnswersFrom, OkOrMemory}
 use Rattle.cosign_laws.proofs.ShelfCalls.{digest_given, manifest_given, image_given, referrers_given}
-use Rattle.cosign_laws.proofs.ShelfStays.{home_of, image_at, tag_at, digest_at, referrer_at, entry_at, tag_stays, listing_stays, referrer_stays, verified_stays}
+use Rattle.shelf_laws.proofs.LostResponses.{Stays, Runs-passes, Meets-passes, stays_preserves}
+use Rattle.shelf_laws.proofs.ShelfRows.{Allows, settled_alone, settled_allows}
+use Rattle.cosign_laws.proofs.PullRows.{HoldsOfCalls, tag_good, referrer_in, digest_in, verified_good}
+use Rattle.cosign_laws.proofs.ShelfStays.{home_of, image_at, tag_at, digest_at, referrer_at, entry_at, calls_stay}
 
 -- ---- some layer passes
 
@@ -186,6 +190,10 @@ module _ {V : Type 0} {H : V → Type 0} (policy_context : PolicyContext V H) (s
   abbrev can : CanBeShown a
   can = valid.asked.credentials
 
+  own_calls : HoldsOfCalls (λ A p. Stays I (answer shelf) p) ctx a registry (repository_of image)
+  own_calls = calls_stay s registry (repository_of image) a shelf J (subst (λ (r : List ℕ). Allows registry (repository_of image) a (λ k. Settled registry r a k)) valid.asked.repository_is (settled_alone registry (repository_of image) a))
+      (λ k is. subst (λ (r : List ℕ). Settled registry r a k) (sym valid.asked.repository_is) is) moment
+
   spelling : Spelled image
   spelling = spelled image valid.asked.reads_back_is
 
@@ -271,7 +279,7 @@ module _ {V : Type 0} {H : V → Type 0} (policy_context : PolicyContext V H) (s
 
   by_reading : (b : Bool) → Reaches I (answer shelf) (OrMemory of_memory AnyPart) (tag_by policy_context.trust digest ctx (tag_reference image digest) a b)
   by_reading false = Reaches-done (Ok (skipping (Source ByTag (NotAReference (whole_text (tag_reference image digest)))))) tt
-  by_reading true = Reaches-bind _ (Reaches-stays (tag_stays policy_context s image a accepted shelf valid.asked moment digest)) (λ r u. Reaches-done (or_skipped (Source ByTag) r) (skipped_any (Source ByTag) r))
+  by_reading true = Reaches-bind _ (Reaches-stays (stays_preserves (tag_good policy_context ctx image a accepted (λ A p. Stays I (answer shelf) p) own_calls valid.asked.reads_back_is digest))) (λ r u. Reaches-done (or_skipped (Source ByTag) r) (skipped_any (Source ByTag) r))
 
   source_reaches : Reaches I (answer shelf) (OrMemory of_memory AnyPart) (tag_source policy_context.trust ctx image a digest)
   unfolding tag_source
@@ -284,7 +292,7 @@ module _ {V : Type 0} {H : V → Type 0} (policy_context : PolicyContext V H) (s
 
   referrer_reaches : (x : List ℕ) (b : Bool) → Reaches I (answer shelf) (OrMemory of_memory AnyPart) (referrer_by policy_context.trust digest ctx (digest_reference source x) a x b)
   referrer_reaches x false = Reaches-done (Ok (skipping (Referrer x (NotAReference (whole_text (digest_reference source x)))))) tt
-  referrer_reaches x true = Reaches-bind _ (Reaches-stays (referrer_stays policy_context s image a accepted shelf valid.asked moment digest x)) (λ r u. Reaches-done _ (skipped_any (Referrer x) (referrer_part policy_context.trust digest r)))
+  referrer_reaches x true = Reaches-bind _ (Reaches-stays (stays_preserves (own_calls.image (digest_reference source x) (referrer_in image valid.asked.reads_back_is digest x) (bundle_type ∷ [])))) (λ r u. Reaches-done _ (skipped_any (Referrer x) (referrer_part policy_context.trust digest r)))
 
   any_row : (x : List ℕ) → Reaches I (answer shelf) (OrMemory of_memory AnyPart) (referrer_row policy_context.trust digest ctx source a x)
   unfolding referrer_row
@@ -301,7 +309,7 @@ module _ {V : Type 0} {H : V → Type 0} (policy_context : PolicyContext V H) (s
 
   referrers_reach : Reaches I (answer shelf) (OrMemory of_memory AnyPart) (referrers_source policy_context.trust digest ctx source a)
   unfolding referrers_source
-  referrers_reach = Reaches-bind _ (Reaches-stays (listing_stays policy_context s image a accepted shelf valid.asked moment digest)) (λ r u. listed_reaches r)
+  referrers_reach = Reaches-bind _ (Reaches-stays (stays_preserves (own_calls.referrers source (digest_in image valid.asked.reads_back_is digest)))) (λ r u. listed_reaches r)
 
   -- ---- a referrer whose bundle satisfies the policy
 
@@ -445,6 +453,7 @@ module _ {V : Type 0} {H : V → Type 0} (policy_context : PolicyContext V H) (s
   refused_memory (sigstore.RegistryFetchManifestError i e) is = absurd (cc is)
   refused_memory (sigstore.RegistryPullError i e) is = absurd (cc is)
   refused_memory (sigstore.RegistryPullManifestError i e) is = absurd (cc is)
+  refused_memory (sigstore.RegistryPushError i e) is = absurd (cc is)
 
   as_whole_is : {A : Type 0} (P : A → Type 0) (r : Result A SigstoreError) → OrMemory of_memory P r → OrMemory is_memory P (as_whole r)
   as_whole_is P (Ok a) h = h
@@ -523,29 +532,29 @@ valid_wide policy_context s image a accepted shelf valid =
 
 -- ---- afterwards
 
-module _ {V : Type 0} {H : V → Type 0} (policy_context : PolicyContext V H) (s : Settings) (image : Reference) (a : RegistryAuth) (accepted : List (List ℕ)) (shelf : Shelf) (asked : IsAsked s image a shelf) (moment : ℕ) where
+module _ {V : Type 0} {H : V → Type 0} (policy_context : PolicyContext V H) (s : Settings) (image other : Reference) (a : RegistryAuth) (accepted : List (List ℕ)) (shelf : Shelf) (at_one : resolved_registry other ≡ resolved_registry image) (moment : ℕ) where
+  abbrev Both : AuthState → Type 0
+  Both k = Settled (resolved_registry image) (repository_of image) a k × Settled (resolved_registry image) (repository_of other) a k
+
   abbrev Before : Kept → Type 0
-  Before k = Settled (resolved_registry image) shelf.repository a k.0 × AreFromShelf s (resolved_registry image) a shelf k.1
+  Before k = Both k.0 × AreFromShelf s (resolved_registry image) a shelf k.1
 
-  settled_again : (k : Kept) → Before k → IsSettled s image a shelf k
-  settled_again k is = record { memory = subst (λ (t : List ℕ). Settled (resolved_registry image) t a k.0) (sym asked.repository_is) is.0; answers = is.1 }
+  stays : Stays Before (answer shelf) (verified policy_context (record { settings = s; moment = moment }) image a accepted)
+  stays = verified_good policy_context (record { settings = s; moment = moment }) image a accepted (λ A p. Stays Before (answer shelf) p)
+      (calls_stay s (resolved_registry image) (repository_of image) a shelf Both (settled_allows (resolved_registry image) (repository_of image) (repository_of other) a) (λ k both. both.0) moment)
 
-  settled_by : (l : Kept) (b : Bool) (e : PullRefusal) → MatchBool b (Unit {0}) (Before l) → MatchBool b (Unit {0}) (IsSettled s image a shelf l)
-  settled_by l true e h = tt
-  settled_by l false e h = settled_again l h
+  both_settled : (k : Kept) → IsSettled s image a shelf k → IsSettled s other a shelf k → Before k
+  both_settled k own also = ((own.memory, subst (λ (r : List ℕ). Settled r (repository_of other) a k.0) at_one also.memory), own.answers)
 
-  settled_unless : (l : Kept) (r : Result VerifiedImage PullRefusal) → UnlessMemory is_memory (λ r. Before l) r → UnlessMemory is_memory (λ r. IsSettled s image a shelf l) r
-  settled_unless l (Ok v) h = settled_again l h
-  settled_unless l (Err e) h = settled_by l (is_memory e) e h
+  settled_again : (k : Kept) → Before k → IsSettled s other a shelf k
+  settled_again k is = record { memory = subst (λ (r : List ℕ). Settled r (repository_of other) a k.0) (sym at_one) is.0.1; answers = subst (λ (r : List ℕ). AreFromShelf s r a shelf k.1) (sym at_one) is.1 }
 
-  -- after a pull over a shelf that the image is requested from, a settled client is settled, whatever the result
-  pub settled_after : {old new : Link} {k l : Kept} (r : Result VerifiedImage PullRefusal) → AnswersFrom shelf old → IsSettled s image a shelf k → Meets is_memory (verified policy_context (record { settings = s; moment = moment }) image a accepted) old new k l r → UnlessMemory is_memory (λ r. IsSettled s image a shelf l) r
-  settled_after {old} {new} {k} {l} r from settled met =
-      settled_unless l r (Meets-comes (answer shelf) (λ l r. Before l) (answering shelf) (verified policy_context (record { settings = s; moment = moment }) image a accepted) from.before old new k l r (shelf_table shelf) from.answers from.told from.faults
-      ((verified_stays policy_context s image a accepted shelf asked moment).stays k (subst (λ (t : List ℕ). Settled (resolved_registry image) t a k.0) asked.repository_is settled.memory, settled.answers)) met)
+  -- after a pull over a shelf, whatever the result, a client is settled for each image of the registry for which it was
+  pub settled_after : {old new : Link} {k l : Kept} (r : Result VerifiedImage PullRefusal) → AnswersFrom shelf old → IsSettled s image a shelf k → IsSettled s other a shelf k → Meets is_memory (verified policy_context (record { settings = s; moment = moment }) image a accepted) old new k l r → IsSettled s other a shelf l
+  settled_after {old} {new} {k} {l} r from own also met =
+      settled_again l (Meets-passes (answer shelf) (answering shelf) Before (λ l r. Unit {0}) (verified policy_context (record { settings = s; moment = moment }) image a accepted) from.before old new k l r (shelf_table shelf) from.answers from.told (stays.stays k (both_settled k own also)) met)
 
-  -- the same after a complete run without faults
-  pub run_settled : (k l : Kept) (place m n : ℕ) (c : List Exchange) (r : Result VerifiedImage PullRefusal) → IsSettled s image a shelf k → AnsweredBy (answering shelf) place c → n ≤ m → m < 2 ^ 64 - 1 → Runs (verified policy_context (record { settings = s; moment = moment }) image a accepted) k m c n l r → IsSettled s image a shelf l
-  run_settled k l place m n c r settled answered_is le lt run =
-      settled_again l (Runs-over (answer shelf) (λ l r. Before l) (answering shelf) (verified policy_context (record { settings = s; moment = moment }) image a accepted) place k l m n c r (shelf_table shelf)
-      ((verified_stays policy_context s image a accepted shelf asked moment).stays k (subst (λ (t : List ℕ). Settled (resolved_registry image) t a k.0) asked.repository_is settled.memory, settled.answers)) answered_is le lt run)
+  -- the same after a complete run
+  pub run_settled : (k l : Kept) (place m n : ℕ) (c : List Exchange) (r : Result VerifiedImage PullRefusal) → IsSettled s image a shelf k → IsSettled s other a shelf k → AnsweredBy (answering shelf) place c → Runs (verified policy_context (record { settings = s; moment = moment }) image a accepted) k m c n l r → IsSettled s other a shelf l
+  run_settled k l place m n c r own also answered_is run =
+      settled_again l (Runs-passes (answer shelf) (answering shelf) Before (λ l r. Unit {0}) (verified policy_context (record { settings = s; moment = moment }) image a accepted) k l place m n c r (shelf_table shelf) (stays.stays k (both_settled k own also)) answered_is run).0

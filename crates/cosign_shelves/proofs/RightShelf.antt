@@ -16,8 +16,9 @@ use Rattle.oci_names.specs.Words.{Tag}
 use Rattle.oci_names.specs.Reference.{repository_of, digest_of, tag_of}
 use Rattle.oci_names.specs.declared.reference.Reference.{Reference}
 use Rattle.oci_auth.specs.declared.auth.RegistryAuth.{RegistryAuth}
-use Rattle.oci_digests.specs.Names.{names, hash_of}
-use Rattle.oci_digests.specs.declared.digester.Algorithm.TheVariants.{Sha256}
+use Rattle.oci_digests.specs.Names.{names}
+use Rattle.oci_digests.specs.Hashes.{hash_of}
+use Rattle.oci_names.specs.declared.algorithm.Algorithm.TheVariants.{Sha256}
 use Rattle.oci_digests.proofs.Equal.{named}
 use Rattle.hex.specs.Hex.{encode_lower}
 use Rattle.oci_manifests.specs.declared.document.OciManifest.TheVariants.{Image}

@@ -55,8 +55,16 @@ AreFromShelf s registry a shelf None = Unit {0}
 AreFromShelf s registry a shelf (Some kept) = All (IsFromShelf s registry a shelf) kept.entries
 
 -- A client that keeps no other credentials for the image's registry than these, no other token for its repository than
--- theirs, and for calls to this shelf with these credentials caches no responses but those that the shelf returns. A
--- new client keeps nothing.
+-- theirs, and for calls to this shelf with these credentials caches no responses but those that the shelf returns.
 pub record IsSettled (s : Settings) (image : Reference) (a : RegistryAuth) (shelf : Shelf) (k : Kept) : Type 0 where
   pub memory : Settled (resolved_registry image) (repository_of image) a k.0
   pub answers : AreFromShelf s (resolved_registry image) a shelf k.1
+
+-- A client that is settled with any settings, for every image, credentials and shelf: a new one, which keeps nothing.
+abbrev pub IsSettledForAll : Kept → Type 0
+IsSettledForAll k = (s : Settings) (image : Reference) (a : RegistryAuth) (shelf : Shelf) → IsSettled s image a shelf k
+
+-- the client is settled for each image of this registry, of whichever repository, for which it was settled before
+abbrev pub StaysSettled : Settings → List ℕ → RegistryAuth → Shelf → Kept → Kept → Type 0
+StaysSettled s registry a shelf before after = (image : Reference) → resolved_registry image ≡ registry
+    → IsSettled s image a shelf before → IsSettled s image a shelf after

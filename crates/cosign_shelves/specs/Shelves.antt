@@ -5,8 +5,8 @@ use Rattle.std.specs.FinMap as map
 use Rattle.oci_names.specs.declared.reference.Reference.{Reference}
 use Rattle.oci_names.specs.Reference.{repository_of, digest_of, tag_of, resolved_registry, reads_back}
 use Rattle.oci_auth.specs.declared.auth.RegistryAuth.{RegistryAuth}
-use Rattle.oci_digests.specs.Names.{name_of, digest_text}
-use Rattle.oci_digests.specs.declared.digester.Algorithm.TheVariants.{Sha256}
+use Rattle.oci_digests.specs.Names.{prefix_of, digest_text}
+use Rattle.oci_names.specs.declared.algorithm.Algorithm.TheVariants.{Sha256}
 use Rattle.oci_descriptors.specs.declared.descriptor.OciDescriptor.{OciDescriptor}
 use Rattle.oci_manifests.specs.declared.blob.ImageLayer.{ImageLayer}
 use Rattle.oci_manifests.specs.declared.index.OciImageIndex.{OciImageIndex}
@@ -35,7 +35,7 @@ use Rattle.cosign_rows.specs.declared.refusal.PullRefusal.TheVariants as refusal
 
 -- a SHA-256 text
 abbrev pub IsSha256 : List ℕ → Type 0
-IsSha256 digest = (digits : List ℕ) × (digest ≡ name_of Sha256 ++ digits)
+IsSha256 digest = (digits : List ℕ) × (digest ≡ prefix_of Sha256 ++ digits)
 
 -- the digest that the image names on the shelf: its own digest, or that of its tag
 abbrev pub digest_on : Shelf → Reference → Option (List ℕ)

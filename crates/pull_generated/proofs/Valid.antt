@@ -21,7 +21,7 @@ use Rattle.url.specs.Parts.{Parts, serialize}
 use Rattle.url.specs.declared.host.Host.TheVariants.{Domain}
 use Rattle.json_values.specs.Places.{by_bytes}
 use Rattle.oci_digests.specs.Names.{names}
-use Rattle.oci_digests.specs.declared.digester.Algorithm.TheVariants.{Sha256}
+use Rattle.oci_names.specs.declared.algorithm.Algorithm.TheVariants.{Sha256}
 use Rattle.oci_digests.proofs.Equal.{named}
 use Rattle.oci_names.specs.Reference.{reads_back}
 use Rattle.oci_auth.specs.declared.auth.RegistryAuth.TheVariants.{Anonymous}

@@ -6,6 +6,8 @@ use Rattle.oci_auth.specs.AuthState.{fresh as nothing_kept}
 use Rattle.oci_auth.specs.declared.auth.RegistryAuth.TheVariants.{Anonymous}
 use Rattle.oci_protocol.specs.Runs.{Meets, Told}
 use Rattle.oci_transport.specs.Link.{Link}
+use Rattle.engine_rows.specs.Confined.{Within}
+use Rattle.engine_rows.specs.Held.{pulling}
 use Rattle.engine_terms.specs.Contexts.{Context, within}
 use Rattle.engine_terms.specs.declared.settings.ClientProtocol.TheVariants.{Http}
 use Rattle.engine_terms.specs.declared.settings.Settings.{Settings}
@@ -95,6 +97,11 @@ abbrev pub IsCaused : ℕ → Link → Link → Result VerifiedImage PullRefusal
 IsCaused n old new result = (kept : Kept) × IfErr result (λ e. Told
     (λ c. PullCause (generated_meaning n) generated_context generated_reference Anonymous generated_types
     (snapshot fresh old.faults) c (snapshot kept new.faults) e) old new)
+
+-- a token was sent only to `localhost:5000` and to the realm that it names, from a new client to its state afterwards
+abbrev pub IsConfined : Link → Link → Type 0
+IsConfined old new = (kept : Kept) × Told
+    (Within (pulling fresh.0 generated_context generated_reference (Some Anonymous)) generated_settings kept.0) old new
 
 abbrev pub IsCount : ℕ → Type 0
 IsCount n = (1 ≤ n) × (n ≤ 1000)

@@ -4,12 +4,14 @@ ghost use Rattle.oci_auth.specs.declared.auth.RegistryAuth.TheVariants.{Anonymou
 ghost use Rattle.oci_protocol.specs.Runs.{Told};
 ghost use Rattle.cosign_chain.specs.Chain.{Chain};
 ghost use Rattle.cosign_chain.specs.Links.{Links};
-ghost use Rattle.cosign_rows.specs.Refusal.{FaultCounted, NoSinkFault};
+ghost use Rattle.registry_calls.specs.Error.{FaultCounted, NoSinkFault};
+ghost use Rattle.cosign_rows.specs.Refusal.{client_refusal};
+ghost use Rattle.cosign_rows.specs.Skips.{CountsFaults, HoldsNoMemoryNorSink, OnSkipped};
 ghost use Rattle.cosign_shelves.specs.Shelves.{AnswersFrom, OkOrMemory};
 ghost use Rattle.cosign_rows.specs.Sound.{Backed};
 ghost use Rattle.generated_image.specs.Shelf.{generated_shelf, HasTwoDigests};
 ghost use Rattle.pull_generated.specs.Terms.{generated_context, fresh, generated_reference};
-ghost use Rattle.pull_generated.specs.Terms.{generated_types, generated_meaning, PullsGenerated, IsCaused, IsCount};
+ghost use Rattle.pull_generated.specs.Terms.{generated_types, generated_meaning, PullsGenerated, IsCaused, IsConfined, IsCount};
 
 use crate::terms::{fresh_client, terms_for};
 use cosign_client::{PullRefusal, VerifiedImage};
@@ -60,8 +62,12 @@ pub fn pull_generated<T: Transport>(
         (T.state transport.old) (T.state transport.new)) }
     ensures links { IfOk result (λ v. Links generated_reference generated_types v) }
     ensures causes { IsCaused layers (T.state transport.old) (T.state transport.new) result }
-    ensures fault { FaultCounted (T.state transport.old) (T.state transport.new) result }
-    ensures no_sink_fault { NoSinkFault result }
+    ensures fault { FaultCounted client_refusal (T.state transport.old) (T.state transport.new) result }
+    ensures no_sink_fault { NoSinkFault client_refusal result }
+    ensures no_memory { IfErr result (λ e. OnSkipped HoldsNoMemoryNorSink e) }
+    ensures faults { IfErr result (λ e. OnSkipped
+        (CountsFaults (T.state transport.old).faults (T.state transport.new).faults) e) }
+    ensures confined { IsConfined (T.state transport.old) (T.state transport.new) }
 {
     pulled(alloc, layers, transport)
 }

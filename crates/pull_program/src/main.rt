@@ -3,6 +3,7 @@
 
 pub use byte_streams::{Failed, MemorySource, PlainSource, Source, StdSink, StdSource};
 use json_values::{List, Text};
+pub use pull_generated::{generated_shelf, pull_generated};
 pub use pull_run::{Status, Word, run};
 pub use pulled_cases::Report;
 use std::alloc::Global;

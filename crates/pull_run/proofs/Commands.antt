@@ -2,8 +2,8 @@
 use Rattle.std.proofs.Common.{◌≡◌, ◌≤◌, ◌&&◌, ℕ, Bool, true, false, List, [], ◌∷◌, Option, Some, None, option_map, IfSome, codes, refl}
 use Rattle.std.specs.Prelude.{nat_le, bytes_eq, slice_index, ◌==◌, if◌then◌else◌}
 use Rattle.std.proofs.lemmas.Bool.{leb-true}
-use Rattle.engine_streams.specs.Head.{decimal_of}
-use Rattle.engine_streams.proofs.Decimals.{split}
+use Rattle.json_values.specs.Decimals.{decimal_of}
+use Rattle.json_values.proofs.Decimals.{split}
 use Rattle.pull_generated.specs.Terms.{IsCount}
 use Rattle.pull_run.specs.Command.{from_one_to_thousand, count_of, command_of, CountsWell}
 use Rattle.pull_run.specs.Word.{word_of}

@@ -13,9 +13,9 @@ use Rattle.oci_protocol.proofs.Laws.{Runs-count}
 use Rattle.oci_link.specs.State.{answering}
 use Rattle.oci_link.specs.declared.shelf.Shelf.{Shelf}
 use Rattle.shelf_laws.specs.EvaluatesWith.{OrMemory}
-use Rattle.registry_calls.specs.Clients.{Kept}
 use Rattle.cosign_chain.specs.declared.image.VerifiedImage.{VerifiedImage}
 use Rattle.cosign_rows.specs.Refusal.{is_memory}
+use Rattle.cosign_rows.specs.Snapshots.{Snapshot, snapshot}
 use Rattle.cosign_shelves.specs.Settled.{IsSettled}
 use Rattle.cosign_rows.specs.Verified.{Whole}
 use Rattle.cosign_rows.specs.declared.refusal.PullRefusal.{PullRefusal}
@@ -91,35 +91,38 @@ second_empty [] d is = is
 second_empty (e ∷ c) d is = absurd (cc is)
 
 -- without an exchange the fault count is unchanged
-turn_none : (row : ℕ → Whole VerifiedImage) (talks : List PullRecord) (k l : Kept) (m n : ℕ) → Turns row k m talks l n → joined talks ≡ [] → n ≡ m
-turn_none row [] k l m n turn none = sym turn.1
-turn_none row (talk ∷ talks) k l m n turn none =
+turn_none : (row : ℕ → Whole VerifiedImage) (talks : List PullRecord) (start end : Snapshot) → Turns row start talks end → joined talks ≡ [] → end.faults ≡ start.faults
+turn_none row [] start end turn none = ap (λ (p : Snapshot). p.faults) (sym turn)
+turn_none row (talk ∷ talks) start end turn none =
     let silent = first_empty talk.conversation (joined talks) none in
-    turn_none row talks turn.1 l turn.2 n turn.4 (second_empty talk.conversation (joined talks) none)
-    ∙ none_count (row talk.moment) talk.before turn.1 m turn.2 talk.result (subst (λ (c : List Exchange). Runs (row talk.moment) talk.before m c turn.2 turn.1 talk.result) silent turn.3)
+    turn_none row talks talk.after end turn.2 (second_empty talk.conversation (joined talks) none)
+    ∙ none_count (row talk.moment) talk.before.kept talk.after.kept talk.before.faults talk.after.faults talk.result (subst (λ (c : List Exchange). Runs (row talk.moment) talk.before.kept talk.before.faults c talk.after.faults talk.after.kept talk.result) silent turn.1)
+    ∙ ap (λ (p : Snapshot). p.faults) (sym turn.0)
 
 -- the first exchange was sent at the fault count before the pulls
-turn_first : (row : ℕ → Whole VerifiedImage) (talks : List PullRecord) (k l : Kept) (m n : ℕ) (e : Exchange) (c : List Exchange) → Turns row k m talks l n → joined talks ≡ e ∷ c → e.faults ≡ m
-turn_first row [] k l m n e c turn is = absurd (cc is)
-turn_first row (talk ∷ talks) k l m n e c turn is = by_conversation talk.conversation refl (turn_first row talks turn.1 l turn.2 n e c turn.4) where
-  run_of : (own : List Exchange) → talk.conversation ≡ own → Runs (row talk.moment) talk.before m own turn.2 turn.1 talk.result
-  run_of own same = subst (λ (d : List Exchange). Runs (row talk.moment) talk.before m d turn.2 turn.1 talk.result) same turn.3
+turn_first : (row : ℕ → Whole VerifiedImage) (talks : List PullRecord) (start end : Snapshot) (e : Exchange) (c : List Exchange) → Turns row start talks end → joined talks ≡ e ∷ c → e.faults ≡ start.faults
+turn_first row [] start end e c turn is = absurd (cc is)
+turn_first row (talk ∷ talks) start end e c turn is = by_conversation talk.conversation refl (turn_first row talks talk.after end e c turn.2) ∙ ap (λ (p : Snapshot). p.faults) (sym turn.0) where
+  run_of : (own : List Exchange) → talk.conversation ≡ own → Runs (row talk.moment) talk.before.kept talk.before.faults own talk.after.faults talk.after.kept talk.result
+  run_of own same = subst (λ (d : List Exchange). Runs (row talk.moment) talk.before.kept talk.before.faults d talk.after.faults talk.after.kept talk.result) same turn.1
 
-  by_conversation : (own : List Exchange) → talk.conversation ≡ own → (joined talks ≡ e ∷ c → e.faults ≡ turn.2) → e.faults ≡ m
-  by_conversation [] same later = later (ap (λ (d : List Exchange). d ++ joined talks) (sym same) ∙ is) ∙ none_count (row talk.moment) talk.before turn.1 m turn.2 talk.result (run_of [] same)
+  by_conversation : (own : List Exchange) → talk.conversation ≡ own → (joined talks ≡ e ∷ c → e.faults ≡ talk.after.faults) → e.faults ≡ talk.before.faults
+  by_conversation [] same later = later (ap (λ (d : List Exchange). d ++ joined talks) (sym same) ∙ is) ∙ none_count (row talk.moment) talk.before.kept talk.after.kept talk.before.faults talk.after.faults talk.result (run_of [] same)
   by_conversation (x ∷ xs) same later =
       let first : x ≡ e = cc (ap (λ (d : List Exchange). d ++ joined talks) (sym same) ∙ is) in
-      ap (λ (y : Exchange). y.faults) (sym first) ∙ first_count (row talk.moment) talk.before turn.1 m turn.2 x xs talk.result (run_of (x ∷ xs) same)
+      ap (λ (y : Exchange). y.faults) (sym first) ∙ first_count (row talk.moment) talk.before.kept talk.after.kept talk.before.faults talk.after.faults x xs talk.result (run_of (x ∷ xs) same)
 
-turn_count : (fails : ℕ → Bool) → ((place : ℕ) → fails place ≡ false) → (row : ℕ → Whole VerifiedImage) (talks : List PullRecord) (k l : Kept) (m n : ℕ) → faults_only_where fails 0 (joined talks) n ≡ true → Turns row k m talks l n → n ≡ m
-turn_count fails never row talks k l m n calm_is turn = by_joined (joined talks) refl where
-  by_joined : (c : List Exchange) → joined talks ≡ c → n ≡ m
-  by_joined [] none = turn_none row talks k l m n turn none
-  by_joined (e ∷ c) is = last_is_first fails never 0 e c n (subst (λ (d : List Exchange). faults_only_where fails 0 d n ≡ true) is calm_is) ∙ turn_first row talks k l m n e c turn is
+turn_count : (fails : ℕ → Bool) → ((place : ℕ) → fails place ≡ false) → (row : ℕ → Whole VerifiedImage) (talks : List PullRecord) (start end : Snapshot) → faults_only_where fails 0 (joined talks) end.faults ≡ true → Turns row start talks end → end.faults ≡ start.faults
+turn_count fails never row talks start end calm_is turn = by_joined (joined talks) refl where
+  by_joined : (c : List Exchange) → joined talks ≡ c → end.faults ≡ start.faults
+  by_joined [] none = turn_none row talks start end turn none
+  by_joined (e ∷ c) is = last_is_first fails never 0 e c end.faults (subst (λ (d : List Exchange). faults_only_where fails 0 d end.faults ≡ true) is calm_is) ∙ turn_first row talks start end e c turn is
 
-turn_le : (row : ℕ → Whole VerifiedImage) (talks : List PullRecord) (k l : Kept) (m n : ℕ) → Turns row k m talks l n → m ≤ n
-turn_le row [] k l m n turn = omega (arith, turn.1)
-turn_le row (talk ∷ talks) k l m n turn = omega (arith, Runs-count (row talk.moment) talk.before turn.1 m turn.2 talk.conversation talk.result turn.3, turn_le row talks turn.1 l turn.2 n turn.4)
+turn_le : (row : ℕ → Whole VerifiedImage) (talks : List PullRecord) (start end : Snapshot) → Turns row start talks end → start.faults ≤ end.faults
+turn_le row [] start end turn = let same : start.faults ≡ end.faults = ap (λ (p : Snapshot). p.faults) turn in omega (arith, same)
+turn_le row (talk ∷ talks) start end turn =
+    let same : start.faults ≡ talk.before.faults = ap (λ (p : Snapshot). p.faults) turn.0 in
+    omega (arith, same, Runs-count (row talk.moment) talk.before.kept talk.after.kept talk.before.faults talk.after.faults talk.conversation talk.result turn.1, turn_le row talks talk.after end turn.2)
 
 -- a conversation split in two parts
 answered_apart : (t : Answering) (place : ℕ) (c d : List Exchange) → AnsweredBy t place (c ++ d) → AnsweredBy t place c × (there : ℕ) × AnsweredBy t there d
@@ -127,25 +130,26 @@ answered_apart t place [] d answered = (tt, place, answered)
 answered_apart t place (e ∷ c) d answered = let rest = answered_apart t (suc place) c d answered.1 in ((answered.0, rest.0), rest.1, rest.2)
 
 -- each pull by a settled client succeeds, and leaves it settled
-each_answered : (case : Case) (h : HasImage case) (talks : List PullRecord) (k l : Kept) (place m n : ℕ) → m ≡ 0 → n ≡ 0 → IsSettled (settings_of case) h.image case.auth h.shelf k → Turns (row_of case h.image) k m talks l n → AnsweredBy (answering h.shelf) place (joined talks) → EachWhole talks → all_answered talks ≡ true
-each_answered case h [] k l place m n start end settled turn answered whole = refl
-each_answered case h (talk ∷ talks) k l place m n start end settled turn answered whole =
+each_answered : (case : Case) (h : HasImage case) (talks : List PullRecord) (start end : Snapshot) (place : ℕ) → start.faults ≡ 0 → end.faults ≡ 0 → IsSettled (settings_of case) h.image case.auth h.shelf start.kept → Turns (row_of case h.image) start talks end → AnsweredBy (answering h.shelf) place (joined talks) → EachWhole talks → all_answered talks ≡ true
+each_answered case h [] start end place first last settled turn answered whole = refl
+each_answered case h (talk ∷ talks) start end place first last settled turn answered whole =
     let row = row_of case h.image in
-    let count = turn.2 in
-    let grew = Runs-count (row talk.moment) talk.before turn.1 m count talk.conversation talk.result turn.3 in
-    let grows = turn_le row talks turn.1 l count n turn.4 in
-    let none : count ≡ 0 = omega (arith, grows) in
+    let before_none : talk.before.faults ≡ 0 = ap (λ (p : Snapshot). p.faults) (sym turn.0) ∙ first in
+    let grew = Runs-count (row talk.moment) talk.before.kept talk.after.kept talk.before.faults talk.after.faults talk.conversation talk.result turn.1 in
+    let grows = turn_le row talks talk.after end turn.2 in
+    let none : talk.after.faults ≡ 0 = omega (arith, grows, last) in
     let apart = answered_apart (answering h.shelf) place talk.conversation (joined talks) answered in
-    let before = subst (IsSettled (settings_of case) h.image case.auth h.shelf) turn.0 settled in
-    let one = answered_is talk.result (run_wide (meaning_of case) (settings_of case) h.image case.auth case.accepted h.shelf h.wide.has talk.moment h.wide.signed talk.before turn.1 place m count talk.conversation talk.result before apart.0 (omega (arith, none)) (omega (arith, start)) turn.3) whole.0 in
-    let after = run_settled (meaning_of case) (settings_of case) h.image case.auth case.accepted h.shelf h.wide.has.asked talk.moment talk.before turn.1 place m count talk.conversation talk.result before apart.0 (omega (arith, none)) (omega (arith, start)) turn.3 in
-    ap (λ b. b && all_answered talks) one ∙ each_answered case h talks turn.1 l apart.1 count n none end after turn.4 apart.2 whole.1
+    let before = subst (λ (p : Snapshot). IsSettled (settings_of case) h.image case.auth h.shelf p.kept) turn.0 settled in
+    let one = answered_is talk.result (run_wide (meaning_of case) (settings_of case) h.image case.auth case.accepted h.shelf h.wide.has talk.moment h.wide.signed talk.before.kept talk.after.kept place talk.before.faults talk.after.faults talk.conversation talk.result before apart.0 (omega (arith, none)) (omega (arith, before_none)) turn.1) whole.0 in
+    let after = run_settled (meaning_of case) (settings_of case) h.image h.image case.auth case.accepted h.shelf refl talk.moment talk.before.kept talk.after.kept place talk.before.faults talk.after.faults talk.conversation talk.result before before apart.0 turn.1 in
+    ap (λ b. b && all_answered talks) one ∙ each_answered case h talks talk.after end apart.1 none last after turn.2 apart.2 whole.1
 
 pub answers_all : (case : Case) (talks : List PullRecord) → HasImage case → Pulled case talks → all_answered talks ≡ true
 answers_all case talks h p =
+    let start = snapshot (fresh case.caching) 0 in
     let image_is = same_image case p.image h.image p.reads h.reads in
-    let turn = subst (λ (r : Reference). Turns (row_of case r) (fresh case.caching) 0 talks p.kept p.faults) image_is (turns (row_of case p.image) (answering_by case.registry) 0 (fresh case.caching) p.kept 0 p.faults talks p.in_turn) in
+    let turn = subst (λ (r : Reference). Turns (row_of case r) start talks p.end) image_is (turns (row_of case p.image) (answering_by case.registry) 0 start p.end talks p.in_turn) in
     let answered : AnsweredBy (answering h.shelf) 0 (joined talks) = subst (λ g. AnsweredBy (answering_by g) 0 (joined talks)) h.held p.answered in
-    let calm_is : faults_only_where (answering h.shelf).fails 0 (joined talks) p.faults ≡ true = subst (λ g. faults_only_where (answering_by g).fails 0 (joined talks) p.faults ≡ true) h.held p.calm_is in
-    each_answered case h talks (fresh case.caching) p.kept 0 0 p.faults refl (turn_count (answering h.shelf).fails (never_fails h.shelf) (row_of case h.image) talks (fresh case.caching) p.kept 0 p.faults calm_is turn)
+    let calm_is : faults_only_where (answering h.shelf).fails 0 (joined talks) p.end.faults ≡ true = subst (λ g. faults_only_where (answering_by g).fails 0 (joined talks) p.end.faults ≡ true) h.held p.calm_is in
+    each_answered case h talks start p.end 0 refl (turn_count (answering h.shelf).fails (never_fails h.shelf) (row_of case h.image) talks start p.end calm_is turn)
     (new_settled (settings_of case) h.image case.auth h.shelf 60 case.caching) turn answered p.whole

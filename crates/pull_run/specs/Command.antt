@@ -1,7 +1,7 @@
 -- The command that the command-line arguments select.
 use Rattle.std.specs.Prelude.{ℕ, List, [], ◌∷◌, ◌==◌, ◌&&◌, Option, Some, None, option_map, if◌then◌else◌, codes}
 use Rattle.std.specs.Prelude.{bytes_eq, nat_le, slice_index}
-use Rattle.engine_streams.specs.Head.{decimal_of}
+use Rattle.json_values.specs.Decimals.{decimal_of}
 use Rattle.pull_generated.specs.Terms.{IsCount}
 use Rattle.pull_run.specs.Word.{word_of}
 use Rattle.pull_run.specs.declared.command.Command.{Command}

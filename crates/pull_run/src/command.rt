@@ -3,8 +3,7 @@ ghost use Rattle.std.specs.Prelude.{◌≡◌};
 ghost use Rattle.pull_run.specs.Command.{count_of, command_of};
 
 use crate::word::{Word, word_of};
-use engine_streams::decimal_of;
-use json_values::Text;
+use json_values::{Text, read_decimal};
 
 /// A command of the program.
 #[derive(Clone, Copy, Debug, PartialEq, Eq)]
@@ -21,7 +20,7 @@ fn count_of(text: &str) -> Option<u32>
     if text.as_bytes().first() == Some(&48) {
         return None;
     }
-    match decimal_of(text.as_bytes()) {
+    match read_decimal(text.as_bytes()) {
         Some(number) if 1 <= number && number <= 1000 => Some(number as u32),
         _ => None,
     }

@@ -7,16 +7,18 @@ use Rattle.std.specs.declared.dyn_box.DynBox.{DynBox}
 use Rattle.oci_names.specs.declared.reference.Reference.{Reference}
 use Rattle.oci_names.specs.Reference.{reference_of}
 use Rattle.oci_auth.specs.declared.auth.RegistryAuth.{RegistryAuth}
+use Rattle.oci_protocol.specs.Runs.{Runs}
 use Rattle.engine_terms.specs.Contexts.{within}
-use Rattle.oci_transport.specs.declared.message.Exchange.{Exchange}
 use Rattle.registry_calls.specs.Clients.{Kept, Client}
 use Rattle.cosign_layers.specs.Satisfying.{CustomVerdict, policy_context}
 use Rattle.cosign_parts.specs.Verifier.{valid_in}
 use Rattle.cosign_parts.specs.declared.layer.SignatureLayer.{SignatureLayer}
 use Rattle.cosign_layers.specs.declared.policy.PullPolicy.{PullPolicy}
 use Rattle.cosign_chain.specs.declared.image.VerifiedImage.{VerifiedImage}
+use Rattle.cosign_rows.specs.Snapshots.{Snapshot, snapshot}
 use Rattle.cosign_rows.specs.Sound.{Sound}
 use Rattle.cosign_rows.specs.declared.refusal.PullRefusal.{PullRefusal}
+use Rattle.cosign_laws.proofs.Causes.{pull_causes}
 use Rattle.cosign_laws.proofs.Images.{Seen}
 use Rattle.cosign_laws.proofs.Chains.{verified_seen}
 use Rattle.cosign_laws.proofs.Meanings.{verified_same}
@@ -35,6 +37,7 @@ use Rattle.cosign_client.specs.declared.asked.Asked.{Asked}
 use Rattle.pulled_cases.specs.Opening.{client_in, Opens}
 use Rattle.pulled_cases.specs.declared.pulls.Opened.{Opened}
 use Rattle.recorded_case.specs.Registry.{answering_by}
+use Rattle.pulled_cases.proofs.CachedResponses.{case_backed}
 use Rattle.pulled_cases.proofs.PullsInTurn.{Turns, turns}
 use Rattle.pulled_cases.specs.Pulls.{PullRecord, InTurn, settings_of, row_of, SoundResult, EachSound, ReportsCase}
 use Rattle.pulled_cases.specs.PullsAt.{row_by, row_for, Replayed}
@@ -56,32 +59,37 @@ row_same {V} {H} policy own case image is =
     (no_item_same V ⊥ H (λ v. ⊥) case.constraints)
     (λ layer. stands_same V ⊥ H (λ v. ⊥) own (λ box layer. false) case.keys case.constraints (valid_in (record { rows = case.signatures })) layer) refl)
 
-sound_result : (case : Case) (image : Reference) (k : Kept) (moment m n : ℕ) (c : List Exchange) (r : Result VerifiedImage PullRefusal) → Seen (Sound k (within (settings_of case) moment) (meaning_of case) image case.auth case.accepted) m c n r → SoundResult case image k moment c r
-sound_result case image k moment m n c (Ok v) h = h
-sound_result case image k moment m n c (Err e) h = tt
+seen_sound : (case : Case) (image : Reference) (talk : PullRecord) (r : Result VerifiedImage PullRefusal) → Runs (row_of case image talk.moment) talk.before.kept talk.before.faults talk.conversation talk.after.faults talk.after.kept r
+    → Seen (Sound talk.before.kept (within (settings_of case) talk.moment) (meaning_of case) image case.auth case.accepted) talk.before.faults talk.conversation talk.after.faults r
+seen_sound case image talk r run = (verified_seen talk.before.kept (within (settings_of case) talk.moment) (meaning_of case) image case.auth case.accepted).seen talk.after.kept talk.before.faults talk.after.faults talk.conversation r run
 
-each_sound : (case : Case) (image : Reference) (k l : Kept) (m n : ℕ) (talks : List PullRecord) → Turns (row_of case image) k m talks l n → EachSound case image talks
-each_sound case image k l m n [] h = tt
-each_sound case image k l m n (talk ∷ talks) h = (sound_result case image talk.before talk.moment m h.2 talk.conversation talk.result ((verified_seen talk.before (within (settings_of case) talk.moment) (meaning_of case) image case.auth case.accepted).seen h.1 m h.2 talk.conversation talk.result h.3), each_sound case image h.1 l h.2 n talks h.4)
+result_sound : (case : Case) (image : Reference) (talk : PullRecord) (r : Result VerifiedImage PullRefusal) → Runs (row_of case image talk.moment) talk.before.kept talk.before.faults talk.conversation talk.after.faults talk.after.kept r → SoundResult case image talk r
+result_sound case image talk (Ok v) run = seen_sound case image talk (Ok v) run
+result_sound case image talk (Err e) run = (pull_causes (meaning_of case) (within (settings_of case) talk.moment) image case.auth case.accepted).shows talk.before.kept talk.after.kept talk.before.faults talk.after.faults talk.conversation (Err e) run
+
+each_sound : (case : Case) (image : Reference) (start end : Snapshot) (talks : List PullRecord) → Turns (row_of case image) start talks end → EachSound case image talks
+each_sound case image start end [] h = tt
+each_sound case image start end (talk ∷ talks) h = (result_sound case image talk talk.result h.1, each_sound case image talk.after end talks h.2)
 
 -- what was replayed of a case is its report
 pub reports_case : {V : Type 0} {H : V → Type 0} (policy : PullPolicy V H) (own : DynBox V Global H → SignatureLayer → Bool) (case : Case) (image : Reference) (l : Kept) (made : Report)
     → reference_of case.reference ≡ Ok image → policy.keys ≡ case.keys → policy.constraints ≡ constraints_by case.constraints
     → Replayed (row_by (policy_context policy own (trust_of case)) (settings_of case) image case.auth case.accepted) case.registry case.moments (fresh case.caching) l made → ReportsCase case made
 reports_case policy own case image l made reads keys constraints played =
-    let turn = subst (λ row. InTurn row (answering_by case.registry) 0 (fresh case.caching) 0 played.talks l played.faults) (row_same policy own case image (policy_is policy case keys constraints)) played.in_turn in
+    let in_turn = subst (λ row. InTurn row (answering_by case.registry) 0 (snapshot (fresh case.caching) 0) played.talks (snapshot l played.faults)) (row_same policy own case image (policy_is policy case keys constraints)) played.in_turn in
+    let turn = turns (row_of case image) (answering_by case.registry) 0 (snapshot (fresh case.caching) 0) (snapshot l played.faults) played.talks in_turn in
     record {
       talks = played.talks;
       pulled = record {
         image = image;
         reads = reads;
         moments = played.moments_are;
-        kept = l;
-        faults = played.faults;
-        in_turn = turn;
+        end = snapshot l played.faults;
+        in_turn = in_turn;
         answered = played.answered;
         calm_is = played.calm_is;
-        sound = each_sound case image (fresh case.caching) l 0 played.faults played.talks (turns (row_of case image) (answering_by case.registry) 0 (fresh case.caching) l 0 played.faults played.talks turn);
+        sound = each_sound case image (snapshot (fresh case.caching) 0) (snapshot l played.faults) played.talks turn;
+        backed = case_backed case image (snapshot l played.faults) played.talks turn;
         whole = played.whole;
       };
       written = played.written;

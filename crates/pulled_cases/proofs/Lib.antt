@@ -1,2 +1,3 @@
+pub mod CachedResponses
 pub mod Cases
 pub mod PullsInTurn

@@ -18,6 +18,7 @@ use Rattle.oci_protocol.proofs.Laws.{RunsBy-runs}
 use Rattle.oci_protocol.proofs.Conversations.{Extends-more}
 use Rattle.registry_calls.specs.Clients.{Kept}
 use Rattle.cosign_rows.specs.Refusal.{is_memory}
+use Rattle.cosign_rows.specs.Snapshots.{Snapshot, snapshot}
 use Rattle.cosign_rows.specs.Verified.{Whole}
 use Rattle.cosign_chain.specs.declared.image.VerifiedImage.{VerifiedImage}
 use Rattle.cosign_rows.specs.declared.refusal.PullRefusal.{PullRefusal}
@@ -31,26 +32,26 @@ use Rattle.cosign_layers.specs.Satisfying.{CustomVerdict}
 use Rattle.pulled_cases.specs.declared.pulls.Terms.{Terms}
 use Rattle.pulled_cases.specs.PullsAt.{row_for, PullsAt, OneMorePull, Replayed}
 
-turn_more : (row : ℕ → Whole VerifiedImage) (t : Answering) (place : ℕ) (k l j : Kept) (m n o : ℕ) (talks : List PullRecord) (talk : PullRecord) → InTurn row t place k m talks l n → l ≡ talk.before → RunsBy t (place + length (joined talks)) (row talk.moment) talk.before n talk.conversation o j talk.result → InTurn row t place k m (talks ++ talk ∷ []) j o
-turn_more row t place k l j m n o [] talk h is run =
-    let here : RunsBy t place (row talk.moment) talk.before n talk.conversation o j talk.result = subst (λ q. RunsBy t q (row talk.moment) talk.before n talk.conversation o j talk.result) (omega arith) run in
-    (h.0 ∙ is, j, o, rw h.1 here, (refl, refl))
-turn_more row t place k l j m n o (first ∷ talks) talk h is run =
+turn_more : (row : ℕ → Whole VerifiedImage) (t : Answering) (place : ℕ) (start end last : Snapshot) (talks : List PullRecord) (talk : PullRecord) → InTurn row t place start talks end → end ≡ talk.before → talk.after ≡ last → RunsBy t (place + length (joined talks)) (row talk.moment) talk.before.kept talk.before.faults talk.conversation talk.after.faults talk.after.kept talk.result → InTurn row t place start (talks ++ talk ∷ []) last
+turn_more row t place start end last [] talk h is ends run =
+    let here : RunsBy t place (row talk.moment) talk.before.kept talk.before.faults talk.conversation talk.after.faults talk.after.kept talk.result = subst (λ q. RunsBy t q (row talk.moment) talk.before.kept talk.before.faults talk.conversation talk.after.faults talk.after.kept talk.result) (omega arith) run in
+    (h ∙ is, here, ends)
+turn_more row t place start end last (first ∷ talks) talk h is ends run =
     let behind : place + length (joined (first ∷ talks)) ≡ (place + length first.conversation) + length (joined talks) = omega (arith, length-append first.conversation (joined talks)) in
-    (h.0, h.1, h.2, h.3, turn_more row t (place + length first.conversation) h.1 l j h.2 n o talks talk h.4 is (subst (λ q. RunsBy t q (row talk.moment) talk.before n talk.conversation o j talk.result) behind run))
+    (h.0, h.1, turn_more row t (place + length first.conversation) first.after end last talks talk h.2 is ends (subst (λ q. RunsBy t q (row talk.moment) talk.before.kept talk.before.faults talk.conversation talk.after.faults talk.after.kept talk.result) behind run))
 
 -- pulls in sequence, whatever the responses
-abbrev pub Turns : (ℕ → Whole VerifiedImage) → Kept → ℕ → List PullRecord → Kept → ℕ → Type 0
-Turns row k m [] l n = (k ≡ l) × (m ≡ n)
-Turns row k m (talk ∷ talks) l n =
-    (k ≡ talk.before) × (kept : Kept) × (count : ℕ)
-    × Runs (row talk.moment) talk.before m talk.conversation count kept talk.result
-    × Turns row kept count talks l n
+abbrev pub Turns : (ℕ → Whole VerifiedImage) → Snapshot → List PullRecord → Snapshot → Type 0
+Turns row start [] end = start ≡ end
+Turns row start (talk ∷ talks) end =
+    (start ≡ talk.before)
+    × Runs (row talk.moment) talk.before.kept talk.before.faults talk.conversation talk.after.faults talk.after.kept talk.result
+    × Turns row talk.after talks end
 
-pub turns : (row : ℕ → Whole VerifiedImage) (t : Answering) (place : ℕ) (k l : Kept) (m n : ℕ) (talks : List PullRecord) → InTurn row t place k m talks l n → Turns row k m talks l n
-turns row t place k l m n [] h = h
-turns row t place k l m n (talk ∷ talks) h =
-    (h.0, h.1, h.2, RunsBy-runs t place (row talk.moment) talk.before h.1 m h.2 talk.conversation talk.result h.3, turns row t (place + length talk.conversation) h.1 l h.2 n talks h.4)
+pub turns : (row : ℕ → Whole VerifiedImage) (t : Answering) (place : ℕ) (start end : Snapshot) (talks : List PullRecord) → InTurn row t place start talks end → Turns row start talks end
+turns row t place start end [] h = h
+turns row t place start end (talk ∷ talks) h =
+    (h.0, RunsBy-runs t place (row talk.moment) talk.before.kept talk.after.kept talk.before.faults talk.after.faults talk.conversation talk.result h.1, turns row t (place + length talk.conversation) talk.after end talks h.2)
 
 joined_more : (talks : List PullRecord) (talk : PullRecord) → joined (talks ++ talk ∷ []) ≡ joined talks ++ talk.conversation
 joined_more [] talk = append-nil talk.conversation
@@ -85,16 +86,18 @@ not_both true b = refl
 not_both false b = refl
 
 one_more : {row : ℕ → Whole VerifiedImage} {mid new : Link} {k l : Kept} {before after : Report} (talk : PullRecord)
-    → k ≡ talk.before → Extends mid new talk.conversation → ((t : Answering) (before : List Exchange) → mid.answers ≡ Some t → mid.told ≡ Some before → RunsBy t (length before) (row talk.moment) talk.before mid.faults talk.conversation new.faults l talk.result) → is_wanting talk.result ≡ false → after.bytes ≡ before.bytes ++ report_of talk → after.refused ≡ (before.refused || not (is_answered talk.result))
+    → snapshot k mid.faults ≡ talk.before → talk.after ≡ snapshot l new.faults → Extends mid new talk.conversation
+    → ((t : Answering) (before : List Exchange) → mid.answers ≡ Some t → mid.told ≡ Some before → RunsBy t (length before) (row talk.moment) talk.before.kept talk.before.faults talk.conversation talk.after.faults talk.after.kept talk.result)
+    → is_wanting talk.result ≡ false → after.bytes ≡ before.bytes ++ report_of talk → after.refused ≡ (before.refused || not (is_answered talk.result))
     → (moments : List ℕ) (start : Link) (j : Kept) → PullsAt row moments start mid j k before → PullsAt row (moments ++ talk.moment ∷ []) start new j l after
-one_more {row} {mid} {new} {k} {l} {before} {after} talk here told run done bytes refused moments start j rounds = record {
+one_more {row} {mid} {new} {k} {l} {before} {after} talk here there told run done bytes refused moments start j rounds = record {
   talks = rounds.talks ++ talk ∷ [];
   moments_are = moments_more rounds.talks talk ∙ ap (λ ms. ms ++ talk.moment ∷ []) rounds.moments_are;
   told = rw joined_more (Extends-more start mid new (joined rounds.talks) talk.conversation rounds.told told);
   in_turn = λ t shown by telling.
       let own = run t (shown ++ joined rounds.talks) (rounds.told.stays.steady t by) (rounds.told.told shown telling) in
-      turn_more row t (length shown) j k l start.faults mid.faults new.faults rounds.talks talk (rounds.in_turn t shown by telling) here
-      (subst (λ q. RunsBy t q (row talk.moment) talk.before mid.faults talk.conversation new.faults l talk.result) (length-append shown (joined rounds.talks)) own);
+      turn_more row t (length shown) (snapshot j start.faults) (snapshot k mid.faults) (snapshot l new.faults) rounds.talks talk (rounds.in_turn t shown by telling) here there
+      (subst (λ q. RunsBy t q (row talk.moment) talk.before.kept talk.before.faults talk.conversation talk.after.faults talk.after.kept talk.result) (length-append shown (joined rounds.talks)) own);
   whole = whole_more rounds.talks talk rounds.whole done;
   written = bytes ∙ ap (λ b. b ++ report_of talk) rounds.written ∙ sym (reports_more rounds.talks talk);
   refused = refused ∙ ap (λ b. b || not (is_answered talk.result)) rounds.refused ∙ not_both (all_answered rounds.talks) (is_answered talk.result) ∙ ap not (sym (answered_more rounds.talks talk));
@@ -102,11 +105,11 @@ one_more {row} {mid} {new} {k} {l} {before} {after} talk here told run done byte
 
 pub round : {row : ℕ → Whole VerifiedImage} {moment : ℕ} {mid new : Link} {k l : Kept} {before after : Report} (c : List Exchange) (r : Result VerifiedImage PullRefusal)
     → Extends mid new c → ((t : Answering) (shown : List Exchange) → mid.answers ≡ Some t → mid.told ≡ Some shown → RunsBy t (length shown) (row moment) k mid.faults c new.faults l r) → is_wanting r ≡ false → after.bytes ≡ before.bytes ++ report moment c r → after.refused ≡ (before.refused || not (is_answered r)) → OneMorePull row moment mid new k l before after
-round {row} {moment} {mid} {new} {k} {l} {before} {after} c r told run done bytes refused = record { more = one_more {row = row} {mid = mid} {new = new} {k = k} {l = l} {before = before} {after = after} (record { before = k; moment = moment; conversation = c; result = r }) refl told run done bytes refused }
+round {row} {moment} {mid} {new} {k} {l} {before} {after} c r told run done bytes refused = record { more = one_more {row = row} {mid = mid} {new = new} {k = k} {l = l} {before = before} {after = after} (record { before = snapshot k mid.faults; after = snapshot l new.faults; moment = moment; conversation = c; result = r }) refl refl told run done bytes refused }
 
 -- no pull yet
 pub none_yet : {row : ℕ → Whole VerifiedImage} {link : Link} {k : Kept} (made : Report) → Extends link link [] → made.bytes ≡ [] → made.refused ≡ false → PullsAt row [] link link k k made
-none_yet made told bytes refused = record { talks = []; moments_are = refl; told = told; in_turn = λ t shown by telling. (refl, refl); whole = tt; written = bytes; refused = refused }
+none_yet made told bytes refused = record { talks = []; moments_are = refl; told = told; in_turn = λ t shown by telling. refl; whole = tt; written = bytes; refused = refused }
 
 -- a pull that did not run out of memory is complete
 pub whole : {p : Whole VerifiedImage} {old new : Link} {k l : Kept} (r : Result VerifiedImage PullRefusal) → is_wanting r ≡ false → Meets is_memory p old new k l r → Performs p old new k l r
@@ -152,7 +155,7 @@ played {row} {moments} {k} {l} {made} registry first last told faults table roun
       talks = rounds.talks;
       moments_are = rounds.moments_are;
       faults = (state_of last).faults;
-      in_turn = subst (λ (n : ℕ). InTurn row (answering_by registry) 0 k n rounds.talks l (state_of last).faults) faults (rounds.in_turn (answering_by registry) [] table told);
+      in_turn = subst (λ (n : ℕ). InTurn row (answering_by registry) 0 (snapshot k n) rounds.talks (snapshot l (state_of last).faults)) faults (rounds.in_turn (answering_by registry) [] table told);
       whole = rounds.whole;
       answered = rounds.told.table (answering_by registry) [] table told;
       calm_is = subst (λ (a : Answering). IsTrue (faults_only_where a.fails 0 (joined rounds.talks) (state_of last).faults)) same (calm_is (joined rounds.talks) all);

@@ -16,6 +16,7 @@ use Rattle.cosign_parts.specs.Judge.{vouched_in}
 use Rattle.cosign_layers.specs.Satisfying.{PolicyContext, CustomVerdict, policy_context}
 use Rattle.cosign_parts.specs.Trust.{trust}
 use Rattle.cosign_parts.specs.Verifier.{valid_in}
+use Rattle.cosign_rows.specs.Snapshots.{snapshot}
 use Rattle.cosign_rows.specs.Verified.{Whole, verified}
 use Rattle.cosign_chain.specs.declared.image.VerifiedImage.{VerifiedImage}
 use Rattle.recorded_case.specs.Registry.{answering_by}
@@ -43,7 +44,7 @@ pub record PullsAt (row : ℕ → Whole VerifiedImage) (moments : List ℕ) (old
   pub moments_are : map moment_of talks ≡ moments
   pub told : Extends old new (joined talks)
   pub in_turn : (t : Answering) (before : List Exchange) → old.answers ≡ Some t → old.told ≡ Some before
-      → InTurn row t (length before) k old.faults talks l new.faults
+      → InTurn row t (length before) (snapshot k old.faults) talks (snapshot l new.faults)
   pub whole : EachWhole talks
   pub written : made.bytes ≡ reports talks
   pub refused : made.refused ≡ not (all_answered talks)
@@ -61,7 +62,7 @@ pub record Replayed (row : ℕ → Whole VerifiedImage) (registry : Registry) (m
   pub talks : List PullRecord
   pub moments_are : map moment_of talks ≡ moments
   pub faults : ℕ
-  pub in_turn : InTurn row (answering_by registry) 0 k 0 talks l faults
+  pub in_turn : InTurn row (answering_by registry) 0 (snapshot k 0) talks (snapshot l faults)
   pub whole : EachWhole talks
   pub answered : AnsweredBy (answering_by registry) 0 (joined talks)
   pub calm_is : IsTrue (faults_only_where (answering_by registry).fails 0 (joined talks) faults)

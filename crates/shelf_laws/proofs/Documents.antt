@@ -6,20 +6,22 @@ use Rattle.std.specs.FinMap.{get-empty, get-insert}
 use Rattle.std.specs.Cmp.Lexicographic.{nat_list_cmp_total}
 use Rattle.std.proofs.Common.{◌≡◌, ◌≤◌, ℕ, Bool, true, false, ◌&&◌, ◌||◌, ◌==◌, List, [], ◌∷◌, ◌++◌, length, Option, Some, None, Result, Ok, Err, refl, sym, ap, ◌∙◌, subst, arith}
 use Rattle.std.proofs.lemmas.Bool.Decides.{nat_tests}
+use Rattle.std.proofs.lemmas.List.Folds.{list_any-append}
 use Rattle.std.proofs.lemmas.Slice.Eq.{bytes_eq-Decides}
 use Rattle.url.specs.Parts.{Parts, serialize}
 use Rattle.json_values.specs.Places.{by_bytes}
 use Rattle.hex.specs.Hex.{encode_lower}
 use Rattle.oci_names.specs.declared.reference.Reference.{Reference}
 use Rattle.oci_names.specs.Reference.{digest_of, tag_of}
-use Rattle.oci_digests.specs.Names.{Names, digest_text, name_of, hash_of}
+use Rattle.oci_digests.specs.Names.{Names, digest_text, prefix_of}
+use Rattle.oci_digests.specs.Hashes.{hash_of}
 use Rattle.oci_digests.specs.Checks.{header_digest as digest_in, is_header_text, and_then}
 use Rattle.oci_digests.specs.Checks.{parts_of, named_by, named_algorithm}
-use Rattle.oci_digests.specs.declared.digester.Algorithm.{Algorithm}
-use Rattle.oci_digests.specs.declared.digester.Algorithm.TheVariants.{Sha256, Sha384, Sha512}
+use Rattle.oci_names.specs.declared.algorithm.Algorithm.{Algorithm}
+use Rattle.oci_names.proofs.Algorithms.{each}
 use Rattle.oci_digests.specs.declared.error.DigestError.TheVariants as digest_refusal
-use Rattle.oci_digests.proofs.ExactChecks.{algorithm_named, is_validated}
-use Rattle.oci_transport.specs.Headers.{Fields, values_of, first_of, added, held, is_header_value, digest_header}
+use Rattle.oci_digests.proofs.ExactChecks.{is_validated}
+use Rattle.oci_transport.specs.Headers.{Fields, values_of, first_of, added, is_header_value, digest_header, has_room}
 use Rattle.oci_transport.specs.Redirects.{may_follow}
 use Rattle.oci_transport.specs.declared.message.Request.{Request}
 use Rattle.oci_transport.specs.declared.message.Answer.{Answer}
@@ -44,7 +46,7 @@ use Rattle.engine_requests.specs.Addresses.{manifest_name, manifest_text, blob_t
 use Rattle.engine_answers.specs.Answers.{accepted, or_digest_error, header_digest, body_digest, answer_digest, document_in, agreed, fits_reference, refused_answer, is_success, is_error}
 use Rattle.engine_answers.specs.Blobs.{digest_expected, pouring, plan_by, planned, plan_of, compared}
 use Rattle.engine_terms.specs.Contexts.{Context}
-use Rattle.engine_terms.specs.Error.{◌>>=◌ as ◌into◌, ◌>>◌ as ◌and◌}
+use Rattle.json_values.specs.Refusals.{◌>>=◌ as ◌into◌, ◌>>◌ as ◌and◌}
 use Rattle.engine_requests.specs.Requests.{manifest_types}
 use Rattle.engine_requests.specs.Sources.{Layer, places_of, asked_at}
 use Rattle.engine_requests.specs.declared.sources.Place.{Place}
@@ -58,7 +60,8 @@ use Rattle.shelf_laws.specs.EvaluatesWith.{EvaluatesWith, Yields, AlwaysOk, IsHe
 use Rattle.shelf_laws.specs.IsHosted.{base_of, IsHosted, IsAt, CanBeShown, Settled}
 use Rattle.shelf_laws.specs.Shelves.{FitsLimit, HasDocument, HasBlob}
 use Rattle.shelf_laws.proofs.TableSteps.{AlwaysOk-done, AlwaysOk-next}
-use Rattle.shelf_laws.proofs.DigestTexts.{digest_all, is_lower_digit}
+use Rattle.oci_digests.proofs.Algorithms.{algorithm_named, digest_all}
+use Rattle.oci_digests.proofs.HexDigits.{is_lower_digit}
 use Rattle.shelf_laws.proofs.ShelfRedirects.{none_held, Answers, EvaluatesWith-led}
 use Rattle.shelf_laws.proofs.PlainNames.{digest_segment, item_plain}
 use Rattle.shelf_laws.proofs.Places.{item_path, answers_manifest, answers_blob, manifest_text_is, blob_text_is}
@@ -73,15 +76,11 @@ value_digit b h = grind (arith, nat_tests, h)
 text_digit : (b : ℕ) → is_lower_digit b ≡ true → (b == 9 || (nat_le 32 b && nat_le b 126)) ≡ true
 text_digit b h = grind (arith, nat_tests, h)
 
-name_value : (a : Algorithm) → is_header_value (name_of a) ≡ true
-name_value Sha256 = refl
-name_value Sha384 = refl
-name_value Sha512 = refl
+name_value : (a : Algorithm) → is_header_value (prefix_of a) ≡ true
+name_value a = each (λ a. is_header_value (prefix_of a)) refl a
 
-name_text : (a : Algorithm) → is_header_text (name_of a) ≡ true
-name_text Sha256 = refl
-name_text Sha384 = refl
-name_text Sha512 = refl
+name_text : (a : Algorithm) → is_header_text (prefix_of a) ≡ true
+name_text a = each (λ a. is_header_text (prefix_of a)) refl a
 
 pub digest_value : (digest bytes : List ℕ) → Names digest bytes → is_header_value digest ≡ true
 digest_value digest bytes (a, is) = subst (λ (t : List ℕ). is_header_value t ≡ true) (sym is) (digest_all (λ b. (b == 9 || nat_le 32 b) && not (b == 127)) a bytes (name_value a) value_digit)
@@ -94,23 +93,24 @@ some_if true text is = refl
 some_if false text is = absurd (cc is)
 
 digest_read : (a : Algorithm) (bytes : List ℕ) → digest_in (Some (digest_text a bytes)) ≡ Ok (Some (digest_text a bytes))
-digest_read Sha256 bytes = some_if _ (digest_text Sha256 bytes) (text_is Sha256 bytes)
-digest_read Sha384 bytes = some_if _ (digest_text Sha384 bytes) (text_is Sha384 bytes)
-digest_read Sha512 bytes = some_if _ (digest_text Sha512 bytes) (text_is Sha512 bytes)
+digest_read a bytes = some_byte (digest_text a bytes) (digest_segment a bytes) (text_is a bytes) where
+  some_byte : (t : List ℕ) → Segment t → is_header_text t ≡ true → digest_in (Some t) ≡ Ok (Some t)
+  some_byte [] (first, rest, is, starts, all) h = absurd (cc is)
+  some_byte (b ∷ t) segment h = some_if _ (b ∷ t) h
 
 pub digest_in_is : (digest bytes : List ℕ) → Names digest bytes → digest_in (Some digest) ≡ Ok (Some digest)
 digest_in_is digest bytes (a, is) = subst (λ (t : List ℕ). digest_in (Some t) ≡ Ok (Some t)) (sym is) (digest_read a bytes)
 
 digest_first : (digest : List ℕ) → is_header_value digest ≡ true → first_of digest_header (with_digest digest) ≡ Some digest
 digest_first digest good =
-    ap (λ b. first_of digest_header (if b && nat_lt (held map.empty) 1000 then added map.empty digest_header digest else map.empty)) good
-    ∙ ap (λ n. first_of digest_header (if nat_lt n 1000 then added map.empty digest_header digest else map.empty)) none_held
+    ap (λ b. first_of digest_header (unwrap_or (if b && has_room map.empty then Some (added map.empty digest_header digest) else None) map.empty)) good
+    ∙ ap (λ n. first_of digest_header (unwrap_or (if nat_lt n 1000 then Some (added map.empty digest_header digest) else None) map.empty)) none_held
     ∙ ap (λ o. slice_get (unwrap_or o []) 0) (get-insert nat_list_cmp_total map.empty digest_header (values_of digest_header map.empty ++ digest ∷ []) digest_header)
     ∙ ap (λ (o : Option (List (List ℕ))). slice_get (unwrap_or o [] ++ digest ∷ []) 0) (get-empty by_bytes digest_header)
 
 type_keeps : (m : Fields) (kind : List ℕ) → first_of digest_header (with_header (codes "content-type") kind m) ≡ first_of digest_header m
-type_keeps m kind = by_test (is_header_value kind && nat_lt (held m) 1000) where
-  by_test : (b : Bool) → first_of digest_header (if b then added m (codes "content-type") kind else m) ≡ first_of digest_header m
+type_keeps m kind = by_test (is_header_value kind && has_room m) where
+  by_test : (b : Bool) → first_of digest_header (unwrap_or (if b then Some (added m (codes "content-type") kind) else None) m) ≡ first_of digest_header m
   by_test true = ap (λ (o : Option (List (List ℕ))). slice_get (unwrap_or o []) 0) (get-insert nat_list_cmp_total m (codes "content-type") (values_of (codes "content-type") m ++ kind ∷ []) digest_header)
   by_test false = refl
 
@@ -178,9 +178,9 @@ head_good : (digest bytes : List ℕ) (document : ShelfDocument) → Names diges
 head_good digest bytes document named = record { status = refl; names = type_keeps (with_digest digest) document.media_type ∙ digest_first digest (digest_value digest bytes named); body_is = refl }
 
 colon_in : (a : Algorithm) (bytes : List ℕ) → list_any is_colon (digest_text a bytes) ≡ true
-colon_in Sha256 bytes = refl
-colon_in Sha384 bytes = refl
-colon_in Sha512 bytes = refl
+colon_in a bytes =
+    list_any-append is_colon (prefix_of a) (encode_lower (hash_of a bytes))
+    ∙ ap (λ b. b || list_any is_colon (encode_lower (hash_of a bytes))) (each (λ a. list_any is_colon (prefix_of a)) refl a)
 
 -- a digest is its own name
 pub digest_itself : (shelf : Shelf) (digest bytes : List ℕ) → Names digest bytes → digest_named shelf digest ≡ Some digest

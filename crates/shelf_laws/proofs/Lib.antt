@@ -1,7 +1,7 @@
 pub mod DigestTags
-pub mod DigestTexts
 pub mod Documents
 pub mod Images
+pub mod LostResponses
 pub mod Places
 pub mod PlainNames
 pub mod ReadHosts
@@ -9,9 +9,9 @@ pub mod ReadUrls
 pub mod References
 pub mod ReferrersOfShelf
 pub mod Requests
-pub mod SettledRows
 pub mod ShelfRedirects
 pub mod ShelfReferences
+pub mod ShelfRows
 pub mod TableSteps
 pub mod Tokens
 pub mod WiderRows

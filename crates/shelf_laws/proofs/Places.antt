@@ -1,5 +1,5 @@
 -- Which URLs the requests for a shelf's repository have, and how the shelf responds there.
-use Rattle.std.specs.Prelude.{codes, not, bytes_eq, nat_lt, slice_get, unwrap_or}
+use Rattle.std.specs.Prelude.{codes, not, bytes_eq, slice_get, unwrap_or}
 use Rattle.std.specs.FinMap as map
 use Rattle.std.specs.FinMap.{get-empty, get-insert}
 use Rattle.std.specs.Cmp.Lexicographic.{nat_list_cmp_total}
@@ -12,7 +12,7 @@ use Rattle.json_values.specs.Places.{by_bytes}
 use Rattle.url.specs.Parts.{Parts}
 use Rattle.oci_names.specs.declared.reference.Reference.{Reference}
 use Rattle.oci_names.specs.Reference.{repository_of, tag_of, digest_of, namespace_of}
-use Rattle.oci_transport.specs.Headers.{first_of, values_of, added, held, is_header_value}
+use Rattle.oci_transport.specs.Headers.{first_of, values_of, added, has_room, is_header_value}
 use Rattle.oci_transport.specs.Redirects.{may_follow, is_redirect_status}
 use Rattle.oci_transport.specs.declared.message.Request.{Request}
 use Rattle.oci_transport.specs.declared.message.Answer.{Answer}
@@ -30,7 +30,7 @@ use Rattle.engine_requests.specs.ReferrerLists.{referrers_text}
 use Rattle.engine_requests.specs.Addresses.{registry_text, base_text, manifest_name, manifest_text, blob_text, mirrored}
 use Rattle.engine_terms.specs.Settings.{is_listed, scheme_for}
 use Rattle.shelf_laws.specs.IsHosted.{base_of, IsWrittenPlainly, IsHosted, IsAt}
-use Rattle.shelf_laws.proofs.DigestTexts.{and_both}
+use Rattle.oci_digests.proofs.HexDigits.{and_both}
 use Rattle.shelf_laws.proofs.ShelfRedirects.{byte_below, Answers, without_redirects, at_path_is}
 use Rattle.shelf_laws.proofs.ReadUrls.{Visible, front_all, request_read}
 use Rattle.shelf_laws.proofs.PlainNames.{base_plain, item_plain, plain_asks_nothing, domain_slashless}
@@ -79,11 +79,11 @@ plain_paths {s} {registry} written =
 
 -- no header requires a token
 unasked : (value : List ℕ) → first_of (codes "www-authenticate") (redirect_to value).headers ≡ None
-unasked value = by_test (is_header_value value && nat_lt (held map.empty) 1000) where
+unasked value = by_test (is_header_value value && has_room map.empty) where
   nothing : first_of (codes "www-authenticate") map.empty ≡ None
   nothing = ap (λ (o : Option (List (List ℕ))). slice_get (unwrap_or o []) 0) (get-empty by_bytes (codes "www-authenticate"))
 
-  by_test : (b : Bool) → first_of (codes "www-authenticate") (cond b (added map.empty (codes "location") value) map.empty) ≡ None
+  by_test : (b : Bool) → first_of (codes "www-authenticate") (unwrap_or (cond b (Some (added map.empty (codes "location") value)) None) map.empty) ≡ None
   by_test true = ap (λ (o : Option (List (List ℕ))). slice_get (unwrap_or o []) 0) (get-insert nat_list_cmp_total map.empty (codes "location") (values_of (codes "location") map.empty ++ value ∷ []) (codes "www-authenticate")) ∙ nothing
   by_test false = nothing
 

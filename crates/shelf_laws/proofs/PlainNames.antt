@@ -2,16 +2,18 @@
 use Rattle.std.specs.Prelude.{codes, not}
 use Rattle.std.specs.List.{list_all}
 use Rattle.std.specs.Char.{is_ascii_alphanumeric, is_ascii_digit}
-use Rattle.std.proofs.Common.{◌≡◌, inl, inr, ℕ, Bool, true, ◌==◌, List, [], ◌∷◌, ◌++◌, refl, sym, ap, ◌∙◌, subst, arith, append_assoc}
+use Rattle.std.proofs.Common.{◌≡◌, inl, inr, ℕ, Bool, true, false, ◌==◌, List, [], ◌∷◌, ◌++◌, refl, sym, ap, ◌∙◌, subst, arith, append_assoc}
 use Rattle.std.proofs.lemmas.Bool.Decides.{nat_tests}
 use Rattle.oci_names.specs.Grammar.{is_path_letter, is_tag_byte}
 use Rattle.oci_names.specs.Words.{Run, Joined, Dashes, DomainComponent, Host, Domain, PathSeparator, PathComponent, Path, Tag}
-use Rattle.oci_digests.specs.Names.{hash_of, digest_text}
-use Rattle.oci_digests.specs.declared.digester.Algorithm.{Algorithm}
-use Rattle.oci_digests.specs.declared.digester.Algorithm.TheVariants.{Sha256, Sha384, Sha512}
+use Rattle.oci_names.proofs.Algorithms.{each}
+use Rattle.oci_digests.specs.Names.{digest_text, prefix_of}
+use Rattle.oci_digests.specs.Hashes.{hash_of}
+use Rattle.oci_names.specs.declared.algorithm.Algorithm.{Algorithm}
 use Rattle.hex.specs.Hex.{encode_lower}
 use Rattle.oci_link.specs.PlainPaths.{is_first_byte, is_segment_byte, Segment, PlainPath}
-use Rattle.shelf_laws.proofs.DigestTexts.{and_left, and_right, and_both, all_append, all_more, is_lower_digit, digits_of_hash}
+use Rattle.oci_digests.proofs.HexDigits.{and_left, and_right, and_both, all_append, all_more, is_lower_digit}
+use Rattle.oci_digests.proofs.Algorithms.{digits_of_hash}
 
 -- ---- tests that all bytes of a concatenation pass
 
@@ -70,10 +72,21 @@ digit_plain b h = grind (arith, nat_tests, h)
 digits_plain : (a : Algorithm) (bytes : List ℕ) → list_all is_segment_byte (encode_lower (hash_of a bytes)) ≡ true
 digits_plain a bytes = all_more is_lower_digit is_segment_byte (encode_lower (hash_of a bytes)) digit_plain (digits_of_hash a bytes)
 
+-- the first byte, if there is one, passes the test
+abbrev pub begins_by : (ℕ → Bool) → List ℕ → Bool
+begins_by p [] = false
+begins_by p (b ∷ rest) = p b
+
+begins_from : (p : ℕ → Bool) (front rest : List ℕ) → begins_by p front ≡ true → Begins p (front ++ rest)
+begins_from p [] rest h = absurd (cc h)
+begins_from p (b ∷ front) rest h = (b, front ++ rest, refl, h)
+
+-- a text before the digits of a hash
+pub hash_segment : (front : List ℕ) (a : Algorithm) (bytes : List ℕ) → begins_by is_first_byte front ≡ true → list_all is_segment_byte front ≡ true → Segment (front ++ encode_lower (hash_of a bytes))
+hash_segment front a bytes first all = segment_from (front ++ encode_lower (hash_of a bytes)) (begins_from is_first_byte front (encode_lower (hash_of a bytes)) first) (all_append is_segment_byte front (encode_lower (hash_of a bytes)) all (digits_plain a bytes))
+
 pub digest_segment : (a : Algorithm) (bytes : List ℕ) → Segment (digest_text a bytes)
-digest_segment Sha256 bytes = (115, codes "ha256:" ++ encode_lower (hash_of Sha256 bytes), refl, refl, all_append is_segment_byte (codes "ha256:") (encode_lower (hash_of Sha256 bytes)) refl (digits_plain Sha256 bytes))
-digest_segment Sha384 bytes = (115, codes "ha384:" ++ encode_lower (hash_of Sha384 bytes), refl, refl, all_append is_segment_byte (codes "ha384:") (encode_lower (hash_of Sha384 bytes)) refl (digits_plain Sha384 bytes))
-digest_segment Sha512 bytes = (115, codes "ha512:" ++ encode_lower (hash_of Sha512 bytes), refl, refl, all_append is_segment_byte (codes "ha512:") (encode_lower (hash_of Sha512 bytes)) refl (digits_plain Sha512 bytes))
+digest_segment a bytes = hash_segment (prefix_of a) a bytes (each (λ a. begins_by is_first_byte (prefix_of a)) refl a) (each (λ a. list_all is_segment_byte (prefix_of a)) refl a)
 
 -- ---- paths
 

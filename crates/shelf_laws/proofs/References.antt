@@ -5,9 +5,6 @@ use Rattle.std.specs.Option.{option_map_or}
 use Rattle.std.specs.Char.{is_ascii_hexdigit}
 use Rattle.std.proofs.Common.{◌≡◌, inl, inr, ◌*◌, ℕ, zero, suc, Bool, true, false, ◌&&◌, ◌==◌, List, [], ◌∷◌, ◌++◌, length, Option, Some, None, Ok, Err, refl, sym, ap, ◌∙◌, subst, arith, append_assoc, append-nil, length-append}
 use Rattle.std.proofs.lemmas.Bool.Decides.{nat_tests}
-use Rattle.hex.specs.Hex.{lower_digits, encode_with, encode_lower}
-use Rattle.sha2.proofs.Facts256.{length-sha256}
-use Rattle.sha2.proofs.Facts512.{length-sha384, length-sha512}
 use Rattle.oci_names.specs.Grammar.{is_hexadecimal, before, after, is_path_letter, is_tag_byte, is_digest}
 use Rattle.oci_names.specs.Parts.{Parts, parts_of, domain_in, rest_in, is_domain_part, is_grammatical, registry_named, library_for, repository_named, tag_named, digest_refusal, refusal_of, marked, is_slash}
 use Rattle.oci_names.specs.Reference.{reference_named, reference_of, whole_text, resolved_registry, reads_back}
@@ -18,10 +15,7 @@ use Rattle.oci_names.specs.declared.reference.Reference.{Reference}
 use Rattle.oci_names.proofs.Cuts.{Lacks, before-Lacks, before-at, after-Lacks, after-at}
 use Rattle.oci_names.proofs.PartWords.{domain, encoded, in_grammar, is_in_grammar}
 use Rattle.oci_names.proofs.ReadsBack.{reads_back-means, reads_back-from}
-use Rattle.oci_digests.specs.Names.{digest_text, hash_of}
-use Rattle.oci_digests.specs.declared.digester.Algorithm.{Algorithm}
-use Rattle.oci_digests.specs.declared.digester.Algorithm.TheVariants.{Sha256, Sha384, Sha512}
-use Rattle.shelf_laws.proofs.DigestTexts.{and_left, and_right, and_both, all_append, all_more, is_lower_digit, digits_of_hash}
+use Rattle.oci_digests.proofs.HexDigits.{and_left, and_right, and_both, all_append, all_more, is_lower_digit}
 use Rattle.shelf_laws.proofs.PlainNames.{joined_all, domain_slashless}
 
 -- ---- splits
@@ -297,42 +291,3 @@ module _ (r : Reference) (h : Spelled r) where
       (ap (λ (x : List ℕ). length x == 0) (text_is r.registry r.repository None (Some d)) ∙ not_empty r.registry (r.repository ++ marks None (Some d)))
       (no_refusal (is_grammatical (digest_parts d)) (nat_lt 255 (length (repository_named (digest_parts d)))) (digest_refusal d) (is_in_grammar (digest_parts d) (record { domain = h.domain_is; path = h.path; tag = tt; digest = encoded d is })) (ap (λ (x : List ℕ). nat_lt 255 (length x)) (named_whole None (Some d)) ∙ h.few) known)
       (λ i. record { registry = h.own i; mirror = None; repository = named_whole None (Some d) i; tag = None; digest = Some d }))
-
--- ---- texts of digests
-
-encoded_length : (t xs : List ℕ) → length (encode_with t xs) ≡ 2 * length xs
-unfolding encode_with
-encoded_length t [] = refl
-encoded_length t (x ∷ xs) = let rest = encoded_length t xs in omega (arith, rest)
-
--- how many digits the text of a digest has
-abbrev pub digits_in : Algorithm → ℕ
-digits_in Sha256 = 64
-digits_in Sha384 = 96
-digits_in Sha512 = 128
-
-pub digest_length : (a : Algorithm) (bytes : List ℕ) → length (encode_lower (hash_of a bytes)) ≡ digits_in a
-digest_length Sha256 bytes = let double = encoded_length lower_digits (hash_of Sha256 bytes) in let short = length-sha256 bytes in omega (arith, double, short)
-digest_length Sha384 bytes = let double = encoded_length lower_digits (hash_of Sha384 bytes) in let short = length-sha384 bytes in omega (arith, double, short)
-digest_length Sha512 bytes = let double = encoded_length lower_digits (hash_of Sha512 bytes) in let short = length-sha512 bytes in omega (arith, double, short)
-
-hex_digit : (b : ℕ) → is_lower_digit b ≡ true → is_ascii_hexdigit b ≡ true
-hex_digit b h = grind (arith, nat_tests, h)
-
-some_digits : (a : Algorithm) (xs : List ℕ) → length xs ≡ digits_in a → not (length xs == 0) ≡ true
-some_digits Sha256 xs is = ap (λ n. not (n == 0)) is
-some_digits Sha384 xs is = ap (λ n. not (n == 0)) is
-some_digits Sha512 xs is = ap (λ n. not (n == 0)) is
-
-is_hex : (a : Algorithm) (bytes : List ℕ) → is_hexadecimal (encode_lower (hash_of a bytes)) ≡ true
-is_hex a bytes = and_both (not (length (encode_lower (hash_of a bytes)) == 0)) (list_all is_ascii_hexdigit (encode_lower (hash_of a bytes))) (some_digits a (encode_lower (hash_of a bytes)) (digest_length a bytes)) (all_more is_lower_digit is_ascii_hexdigit (encode_lower (hash_of a bytes)) hex_digit (digits_of_hash a bytes))
-
-pub digest_is_digest : (a : Algorithm) (bytes : List ℕ) → is_digest (digest_text a bytes) ≡ true
-digest_is_digest Sha256 bytes = is_hex Sha256 bytes
-digest_is_digest Sha384 bytes = is_hex Sha384 bytes
-digest_is_digest Sha512 bytes = is_hex Sha512 bytes
-
-pub digest_is_known : (a : Algorithm) (bytes : List ℕ) → digest_refusal (digest_text a bytes) ≡ None
-digest_is_known Sha256 bytes = ap (λ n. if n == 64 then None else Some DigestInvalidLength) (digest_length Sha256 bytes)
-digest_is_known Sha384 bytes = ap (λ n. if n == 96 then None else Some DigestInvalidLength) (digest_length Sha384 bytes)
-digest_is_known Sha512 bytes = ap (λ n. if n == 128 then None else Some DigestInvalidLength) (digest_length Sha512 bytes)

@@ -24,7 +24,7 @@ use Rattle.engine_terms.specs.declared.error.OciDistributionError.{OciDistributi
 use Rattle.engine_requests.specs.Addresses.{url_read}
 use Rattle.engine_terms.specs.Contexts.{Context}
 use Rattle.engine_answers.specs.Documents.{document_read}
-use Rattle.engine_terms.specs.Error.{◌>>=◌ as ◌into◌}
+use Rattle.json_values.specs.Refusals.{◌>>=◌ as ◌into◌}
 use Rattle.engine_answers.specs.Referrers.{referrers_in, referrers_tag, fallback_reference, tagged_index}
 use Rattle.engine_requests.specs.ReferrerLists.{digest_given, referrers_text, referrers_url, with_artifact_type}
 use Rattle.engine_requests.specs.Requests.{manifest_types}
@@ -40,7 +40,7 @@ use Rattle.shelf_laws.proofs.Documents.{named_segment, asked_gives, answer_gives
 use Rattle.shelf_laws.proofs.PlainNames.{item_plain}
 use Rattle.shelf_laws.proofs.Places.{item_path, answers_referrers, referrers_text_is}
 use Rattle.shelf_laws.proofs.Requests.{yields_ok, IsUrl, url_reads}
-use Rattle.shelf_laws.proofs.SettledRows.{resolved_again}
+use Rattle.shelf_laws.proofs.ShelfRows.{resolved_again}
 use Rattle.shelf_laws.proofs.Tokens.{prepared_gives}
 
 -- the tag that replaces a list of referrers

@@ -1,5 +1,5 @@
 -- The requests that can be built, and how a response of status 200 is received.
-use Rattle.std.specs.Prelude.{codes, nat_lt, sum_by, unwrap_or, IsTrue, if◌then◌else◌}
+use Rattle.std.specs.Prelude.{codes, nat_lt, sum_by, unwrap_or, IsTrue, if◌then◌else◌, ok_or}
 use Rattle.std.specs.FinMap as map
 use Rattle.std.specs.FinMap.{entries-insert, get-empty, get-insert, put}
 use Rattle.std.specs.Cmp.Lexicographic.{nat_list_cmp_total}
@@ -7,7 +7,7 @@ use Rattle.std.proofs.Common.{◌≡◌, ◌≤◌, ℕ, true, ◌&&◌, List, [
 use Rattle.std.proofs.lemmas.Bool.{le-ltb}
 use Rattle.url.specs.Parts.{Parts, serialize}
 use Rattle.json_values.specs.Places.{by_bytes}
-use Rattle.oci_transport.specs.Headers.{Fields, values_of, added, held, is_header_value}
+use Rattle.oci_transport.specs.Headers.{Fields, values_of, added, held, is_header_value, has_room}
 use Rattle.oci_transport.specs.Urls.{request_url}
 use Rattle.oci_transport.specs.declared.message.Request.{Request}
 use Rattle.oci_transport.specs.declared.message.Answer.{Answer}
@@ -54,9 +54,9 @@ two_held name types =
 
 header_ok : (headers : Fields) (name value : List ℕ) (n : ℕ) → is_header_value value ≡ true → held headers ≡ n → nat_lt n 1000 ≡ true → with_header headers name value ≡ Ok (added headers name value)
 header_ok headers name value n good few small =
-    ap (λ b. if b && nat_lt (held headers) 1000 then Ok (added headers name value) else Err (refusal.GenericError HeaderText)) good
-    ∙ ap (λ k. if nat_lt k 1000 then Ok (added headers name value) else Err (refusal.GenericError HeaderText)) few
-    ∙ ap (λ b. if b then Ok (added headers name value) else Err (refusal.GenericError HeaderText)) small
+    ap (λ b. ok_or (if b && has_room headers then Some (added headers name value) else None) (refusal.GenericError HeaderText)) good
+    ∙ ap (λ k. ok_or (if nat_lt k 1000 then Some (added headers name value) else None) (refusal.GenericError HeaderText)) few
+    ∙ ap (λ b. ok_or (if b then Some (added headers name value) else None) (refusal.GenericError HeaderText)) small
 
 -- ---- requests
 

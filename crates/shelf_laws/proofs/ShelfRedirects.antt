@@ -20,7 +20,7 @@ use Rattle.url.specs.Parts.{Parts, serialize}
 use Rattle.url.specs.Parser.{parse_url}
 use Rattle.url.proofs.InputLemmas.{list_all_from_All}
 use Rattle.url.proofs.Theorems.{parse_url-serialize_special}
-use Rattle.oci_transport.specs.Headers.{first_of, values_of, added, held, is_value_byte, is_header_value, is_text_byte, is_text}
+use Rattle.oci_transport.specs.Headers.{first_of, values_of, added, held, is_value_byte, is_header_value, is_text_byte, is_text, has_room}
 use Rattle.oci_transport.specs.Redirects.{text_of, may_follow, is_redirect_status, kept_headers, moved, moved_text, moved_from, moved_to, joined_text, location_of, redirected}
 use Rattle.oci_transport.specs.Urls.{request_url, same_origin}
 use Rattle.oci_transport.specs.declared.message.Request.{Request}
@@ -132,8 +132,8 @@ none_held = ap (λ (es : List (List ℕ × List (List ℕ))). sum_by (λ e. leng
 location_first : (value : List ℕ) → All Visible value → first_of (codes "location") (redirect_to value).headers ≡ Some value
 location_first value visible =
     let good : is_header_value value ≡ true = list_all_from_All is_value_byte value (All-weaker Visible (λ b. is_value_byte b ≡ true) value_byte value visible) in
-    ap (λ b. first_of (codes "location") (if b && nat_lt (held map.empty) 1000 then added map.empty (codes "location") value else map.empty)) good
-    ∙ ap (λ n. first_of (codes "location") (if nat_lt n 1000 then added map.empty (codes "location") value else map.empty)) none_held
+    ap (λ b. first_of (codes "location") (unwrap_or (if b && has_room map.empty then Some (added map.empty (codes "location") value) else None) map.empty)) good
+    ∙ ap (λ n. first_of (codes "location") (unwrap_or (if nat_lt n 1000 then Some (added map.empty (codes "location") value) else None) map.empty)) none_held
     ∙ ap (λ o. slice_get (unwrap_or o []) 0) (get-insert nat_list_cmp_total map.empty (codes "location") (values_of (codes "location") map.empty ++ value ∷ []) (codes "location"))
     ∙ ap (λ (o : Option (List (List ℕ))). slice_get (unwrap_or o [] ++ value ∷ []) 0) (get-empty by_bytes (codes "location"))
 

@@ -13,7 +13,7 @@ use Rattle.oci_link.specs.Table.{digest_named, is_colon}
 use Rattle.oci_link.specs.declared.shelf.Shelf.{Shelf}
 use Rattle.engine_requests.specs.Addresses.{manifest_name}
 use Rattle.shelf_laws.specs.Shelves.{HasDocument}
-use Rattle.shelf_laws.proofs.DigestTexts.{and_left, and_right}
+use Rattle.oci_digests.proofs.HexDigits.{and_left, and_right}
 use Rattle.shelf_laws.proofs.Documents.{NoOther, named_segment}
 use Rattle.shelf_laws.proofs.Images.{Points}
 use Rattle.shelf_laws.proofs.PlainNames.{tag_segment}

@@ -59,26 +59,6 @@ module _ {K : Type 0} {I : K → Type 0} {table : Request → Answer} where
     by_result l (Ok a) is found = (next a found).gives l is
     by_result l (Err e) is found = absurd found
 
-  -- a part that only has to preserve the property of the client state
-  pub AlwaysOk-after : {A B E : Type 0} {Q : B → Type 0} {p : Proto K A} (f : A → Proto K (Result B E)) → Preserves I table p → ((a : A) → AlwaysOk I table Q (f a)) → AlwaysOk I table Q (bind p f)
-  AlwaysOk-after {A} {B} {E} {Q} {p} f h next = record { gives = λ k is. EvaluatesWith-bind table (λ l r. I l) (λ l r. I l × Yields Q r) p f k (h.stays k is) (λ l a found. (next a).gives l found) }
-
-  pub AlwaysOk-stays : {A E : Type 0} {P : A → Type 0} {p : Proto K (Result A E)} → AlwaysOk I table P p → Preserves I table p
-  AlwaysOk-stays {A} {E} {P} {p} h = record { stays = λ k is. EvaluatesWith-more table (λ l r. I l × Yields P r) (λ l r. I l) p k (h.gives k is) (λ l r found. found.0) }
-
-  pub Preserves-done : {A : Type 0} (a : A) → Preserves I table (Done a)
-  unfolding EvaluatesWith
-  Preserves-done a = record { stays = λ k is. is }
-
-  pub Preserves-bind : {A B : Type 0} {p : Proto K A} (f : A → Proto K B) → Preserves I table p → ((a : A) → Preserves I table (f a)) → Preserves I table (bind p f)
-  Preserves-bind {A} {B} {p} f h next = record { stays = λ k is. EvaluatesWith-bind table (λ l r. I l) (λ l r. I l) p f k (h.stays k is) (λ l a found. (next a).stays l found) }
-
-  pub Preserves-next : {A B E : Type 0} {p : Proto K (Result A E)} (f : A → Proto K (Result B E)) → Preserves I table p → ((a : A) → Preserves I table (f a)) → Preserves I table (p >>= f)
-  Preserves-next {A} {B} {E} {p} f h next = Preserves-bind (unless_refused f) h by_result where
-    by_result : (r : Result A E) → Preserves I table (unless_refused f r)
-    by_result (Ok a) = next a
-    by_result (Err e) = Preserves-done (Err e)
-
 -- ---- steps that may return out of memory
 
 module _ {K : Type 0} {I : K → Type 0} {table : Request → Answer} where
@@ -144,27 +124,6 @@ EvaluatesWith-follow {K} {A} table Q (suc n) request reading next answer k is no
     subst (λ (o : Option Request). IsHeld (unread_if o (reading (head_part answer))) × EvaluatesWith table Q (turn request (λ r. follow n r reading next) (next request) (reply_of (unread_if o (reading (head_part answer))) answer)) k) (sym none) (held, asked) in
     subst (λ (x : Answer). IsHeld (turned request reading (head_part x)) × EvaluatesWith table Q (turn request (λ r. follow n r reading next) (next request) (reply_of (turned request reading (head_part x)) x)) k) (sym is) read
 
--- for any responses
-pub Preserves-follow : {K A : Type 0} (I : K → Type 0) (table : Request → Answer) (n : ℕ) (request : Request) (reading : AnswerHead → Reading) (next : Request → Reply → Proto K A)
-    → ((head : AnswerHead) → IsHeld (reading head)) → ((last : Request) (reply : Reply) → Preserves I table (next last reply)) → Preserves I table (follow n request reading next)
-unfolding EvaluatesWith follow turned
-Preserves-follow I table zero request reading next held h = record { stays = λ k is. (held (head_part (table request)), (h request (reply_of (reading (head_part (table request))) (table request))).stays k is) }
-Preserves-follow {K} {A} I table (suc n) request reading next held h = record { stays = λ k is. (held_if (redirected request (head_part (table request))), (turned_stays (λ r. Preserves-follow I table n r reading next held h) (reply_of (turned request reading (head_part (table request))) (table request))).stays k is) } where
-  held_if : (o : Option Request) → IsHeld (unread_if o (reading (head_part (table request))))
-  held_if (Some r) = tt
-  held_if None = held (head_part (table request))
-
-  gone : ((r : Request) → Preserves I table (follow n r reading next)) → (o : Option Request) (reply : Reply) → Preserves I table (go_if o (λ r. follow n r reading next) (next request reply))
-  gone go (Some r) reply = go r
-  gone go None reply = h request reply
-
-  turned_stays : ((r : Request) → Preserves I table (follow n r reading next)) → (reply : Reply) → Preserves I table (turn request (λ r. follow n r reading next) (next request) reply)
-  turned_stays go (Headed head) = gone go (redirected request head) (Headed head)
-  turned_stays go (Answered answer) = h request (Answered answer)
-  turned_stays go Failed = h request Failed
-  turned_stays go TooLong = h request TooLong
-  turned_stays go SinkFailed = h request SinkFailed
-
 -- ---- runs
 
 -- each exchange has the table's response
@@ -181,12 +140,12 @@ all_by : (table : Request → Answer) (t : Answering) (place : ℕ) (c : List Ex
 all_by table t place [] by h = tt
 all_by table t place (e ∷ c) by h = (h.0 ∙ by.answer place e.request, all_by table t (suc place) c by h.1)
 
-read_short : (reading : Reading) (limit : ℕ) (answer : Answer) → limit_of reading ≡ Some limit → length answer.body ≤ limit → reply_of reading answer ≡ Answered answer
+pub read_short : (reading : Reading) (limit : ℕ) (answer : Answer) → limit_of reading ≡ Some limit → length answer.body ≤ limit → reply_of reading answer ≡ Answered answer
 read_short Unread limit answer is le = absurd (cc is)
 read_short (Within n) limit answer is le = let eq : n ≡ limit = cc is in rw (eq, le-ltb limit (length answer.body) le) refl
 read_short (Piped n) limit answer is le = let eq : n ≡ limit = cc is in rw (eq, le-ltb limit (length answer.body) le) refl
 
-read_long : (reading : Reading) (limit : ℕ) (answer : Answer) → limit_of reading ≡ Some limit → limit < length answer.body → reply_of reading answer ≡ TooLong
+pub read_long : (reading : Reading) (limit : ℕ) (answer : Answer) → limit_of reading ≡ Some limit → limit < length answer.body → reply_of reading answer ≡ TooLong
 read_long Unread limit answer is lt = absurd (cc is)
 read_long (Within n) limit answer is lt = let eq : n ≡ limit = cc is in rw (eq, lt-ltb limit (length answer.body) lt) refl
 read_long (Piped n) limit answer is lt = let eq : n ≡ limit = cc is in rw (eq, lt-ltb limit (length answer.body) lt) refl

@@ -1,11 +1,10 @@
 -- The token of a request to a shelf: the stored one, or the one that the credentials are.
-use Rattle.std.specs.Prelude.{codes, nat_le, option_and_then}
-use Rattle.std.specs.Option.{option_map_or}
+use Rattle.std.specs.Prelude.{codes, nat_le, option_and_then, IsTrue, IfSome}
 use Rattle.std.specs.FinMap as map
 use Rattle.std.specs.FinMap.{get-empty, get-insert}
 use Rattle.std.specs.Cmp.{eq_by_cmp_equiv}
 use Rattle.std.specs.Cmp.Lexicographic.{nat_list_cmp_total}
-use Rattle.std.proofs.Common.{◌≡◌, inl, inr, ℕ, Bool, true, false, cond, List, ◌++◌, is_some, Option, Some, None, Ok, refl, sym, ap, ◌∙◌, subst}
+use Rattle.std.proofs.Common.{◌≡◌, ◌⊎◌, inl, inr, ℕ, Bool, true, false, cond, List, ◌++◌, is_some, Option, Some, None, Ok, refl, sym, ap, ◌∙◌, subst}
 use Rattle.url.specs.Parts.{Parts, serialize}
 use Rattle.json_values.specs.Places.{by_bytes}
 use Rattle.oci_names.specs.declared.reference.Reference.{Reference}
@@ -17,18 +16,15 @@ use Rattle.oci_transport.specs.declared.message.AnswerHead.{AnswerHead}
 use Rattle.oci_transport.specs.declared.message.Method.{Method}
 use Rattle.oci_transport.specs.declared.message.Method.TheVariants.{Get}
 use Rattle.oci_auth.specs.declared.auth.RegistryAuth.{RegistryAuth}
-use Rattle.oci_auth.specs.declared.auth.RegistryAuth.TheVariants.{Anonymous, Basic, Bearer}
-use Rattle.oci_auth.specs.declared.cache.TokenCache.{TokenCache}
 use Rattle.oci_auth.specs.declared.kept.KeptToken.{KeptToken}
 use Rattle.oci_auth.specs.declared.auth_state.AuthState.{AuthState}
-use Rattle.oci_auth.specs.declared.token.RegistryToken.TheVariants.{Token}
 use Rattle.oci_auth.specs.declared.token_type.RegistryOperation.TheVariants.{Pull}
 use Rattle.oci_auth.specs.declared.token_type.RegistryTokenType.{RegistryTokenType}
-use Rattle.oci_auth.specs.declared.token_type.RegistryTokenType.TheVariants as shown
-use Rattle.oci_auth.specs.Cache.{key_of, kept_until, kept_token, given_at, token_at}
-use Rattle.oci_auth.specs.Kept.{Key, under, kept_under, inserted}
+use Rattle.oci_auth.specs.Auth.{unasked, authorization_of}
+use Rattle.oci_auth.specs.Cache.{key_of, kept_token, given_at, token_at}
+use Rattle.oci_auth.specs.Kept.{Key, under, kept_under, NoneOr}
 use Rattle.oci_auth.specs.AuthState.{fresh, stored}
-use Rattle.oci_auth.proofs.Places.{is_kept}
+use Rattle.oci_auth.proofs.Places.{stored_after}
 use Rattle.oci_protocol.specs.Proto.{read_none, bind}
 use Rattle.oci_link.specs.Table.{answer}
 use Rattle.oci_link.specs.declared.shelf.Shelf.{Shelf}
@@ -38,9 +34,9 @@ use Rattle.engine_requests.specs.Addresses.{registry_text, base_text, url_read, 
 use Rattle.engine_terms.specs.Contexts.{Context}
 use Rattle.engine_requests.specs.Requests.{request_of}
 use Rattle.engine_requests.specs.Tokens.{wanted, wanted_in}
-use Rattle.engine_rows.specs.Rows.{Row, head_reply, head_after, store, fetched, registry_asked, token_step, with_kept, taken, token_asked, kept_or_asked, token_by, token_for, goes_to, token_where, authorized, prepared, kept_text, token_given}
+use Rattle.engine_rows.specs.Rows.{Row, head_reply, head_after, store, fetched, registry_asked, unasked_or_asked, token_step, with_kept, taken, token_asked, kept_or_asked, token_by, token_for, goes_to, token_where, authorized, prepared, kept_text, token_given}
 use Rattle.shelf_laws.specs.EvaluatesWith.{EvaluatesWith, Yields, AlwaysOk}
-use Rattle.shelf_laws.specs.IsHosted.{base_of, IsHosted, IsAt, CanBeShown, shown_unasked, NoneOr, IsToken, Settled}
+use Rattle.shelf_laws.specs.IsHosted.{base_of, IsHosted, IsAt, CanBeShown, IsToken, Settled}
 use Rattle.shelf_laws.proofs.TableSteps.{EvaluatesWith-follow, AlwaysOk-done, AlwaysOk-next, AlwaysOk-more, AlwaysOk-caught}
 use Rattle.shelf_laws.proofs.Places.{base_unasked, base_text_is, registry_text_is}
 use Rattle.shelf_laws.proofs.PlainNames.{base_plain}
@@ -61,31 +57,31 @@ settled_stored registry repository a k h = by_kept (map.get k.credentials regist
 pub fresh_settled : (registry repository : List ℕ) (a : RegistryAuth) (default : ℕ) → Settled registry repository a (fresh default)
 fresh_settled registry repository a default = record { credentials = inl (get-empty by_bytes registry); token = tt }
 
-is_token_kept : (registry repository : List ℕ) (a : RegistryAuth) (cache : TokenCache) (token : RegistryTokenType) (until : Option ℕ) → Some token ≡ shown_unasked a → IsToken a (kept_under (under registry repository Pull) cache.tokens)
-    → IsToken a (kept_under (under registry repository Pull) (option_map_or (λ n. record cache { tokens = inserted cache.tokens (kept_token (under registry repository Pull) token n) }) until cache).tokens)
-is_token_kept registry repository a cache token None own before = before
-is_token_kept registry repository a cache token (Some n) own before = subst (IsToken a) (sym (is_kept cache.tokens (kept_token (under registry repository Pull) token n)).here) own
-
-settled_kept : (registry repository : List ℕ) (a : RegistryAuth) (k : AuthState) (token : RegistryTokenType) (moment : ℕ) → Some token ≡ shown_unasked a → Settled registry repository a k → Settled registry repository a (with_kept k (under registry repository Pull) token moment)
-settled_kept registry repository a k token moment own h = record { credentials = h.credentials; token = is_token_kept registry repository a k.tokens token (kept_until token k.tokens.default_expiration_secs moment) own h.token }
+settled_kept : (registry repository : List ℕ) (a : RegistryAuth) (k : AuthState) (token : RegistryTokenType) (moment : ℕ) → Some token ≡ unasked a → Settled registry repository a k → Settled registry repository a (with_kept k (under registry repository Pull) token moment)
+settled_kept registry repository a k token moment own h = record { credentials = h.credentials; token = by_after (stored_after k.tokens (under registry repository Pull) (under registry repository Pull) token moment) } where
+  by_after : NoneOr (kept_under (under registry repository Pull) (with_kept k (under registry repository Pull) token moment).tokens.tokens) (kept_under (under registry repository Pull) k.tokens.tokens)
+      ⊎ ((under registry repository Pull ≡ under registry repository Pull) × (until : ℕ) × (kept_under (under registry repository Pull) (with_kept k (under registry repository Pull) token moment).tokens.tokens ≡ Some (kept_token (under registry repository Pull) token until)))
+      → IsToken a (kept_under (under registry repository Pull) (with_kept k (under registry repository Pull) token moment).tokens.tokens)
+  by_after (inl (inl none)) = subst (IsToken a) (sym none) tt
+  by_after (inl (inr before)) = subst (IsToken a) (sym before) h.token
+  by_after (inr (same, until, is)) = subst (IsToken a) (sym is) own
 
 -- the stored token, if there is one
-token_kept : (a : RegistryAuth) (o : Option KeptToken) (moment : ℕ) → IsToken a o → NoneOr (option_and_then (given_at moment) o) (shown_unasked a)
+token_kept : (a : RegistryAuth) (o : Option KeptToken) (moment : ℕ) → IsToken a o → NoneOr (option_and_then (given_at moment) o) (unasked a)
 token_kept a None moment h = inl refl
 token_kept a (Some kept) moment h = by_test (nat_le moment kept.expiration) where
-  by_test : (b : Bool) → NoneOr (cond b (Some kept.token) None) (shown_unasked a)
+  by_test : (b : Bool) → NoneOr (cond b (Some kept.token) None) (unasked a)
   by_test true = inr h
   by_test false = inl refl
 
 -- ---- the step
 
-can_show : (a : RegistryAuth) (token : Option RegistryTokenType) → CanBeShown a → NoneOr token (shown_unasked a) → CanStand token
+can_show : (a : RegistryAuth) (token : Option RegistryTokenType) → CanBeShown a → NoneOr token (unasked a) → CanStand token
 can_show a token can (inl none) = subst CanStand (sym none) tt
-can_show a token can (inr own) = subst CanStand (sym own) (by_kind a can) where
-  by_kind : (a : RegistryAuth) → CanBeShown a → CanStand (shown_unasked a)
-  by_kind (Bearer text) can = can
-  by_kind (Basic user password) can = tt
-  by_kind Anonymous can = tt
+can_show a token can (inr own) = subst CanStand (sym own) (stands (unasked a) can) where
+  stands : (o : Option RegistryTokenType) → IfSome o (λ (token : RegistryTokenType). IsTrue (is_header_value (authorization_of token))) → CanStand o
+  stands None can = tt
+  stands (Some token) can = can
 
 wants_nothing : (head : AnswerHead) → first_of (codes "www-authenticate") head.headers ≡ None → wanted head ≡ wants.Nothing
 unfolding wanted
@@ -124,30 +120,29 @@ module _ {s : Settings} {registry : List ℕ} {shelf : Shelf} (home : IsHosted s
   key = key_of image Pull
 
   abbrev Shown : Option RegistryTokenType → Type 0
-  Shown o = NoneOr o (shown_unasked a)
+  Shown o = NoneOr o (unasked a)
 
   -- the same if the client state is stated with the image's own names
   spelled : {A : Type 0} {P : A → Type 0} {p : Row A} → AlwaysOk (λ k. Settled (resolved_registry image) (repository_of image) a k) (answer shelf) P p → AlwaysOk I (answer shelf) P p
   spelled {A} {P} {p} h = subst (λ (r : List ℕ). AlwaysOk (λ k. Settled r shelf.repository a k) (answer shelf) P p) at.registry_is (subst (λ (r : List ℕ). AlwaysOk (λ k. Settled (resolved_registry image) r a k) (answer shelf) P p) at.repository_is h)
 
-  own_taken : (token : RegistryTokenType) → Some token ≡ shown_unasked a → AlwaysOk (λ k. Settled (resolved_registry image) (repository_of image) a k) (answer shelf) Shown (taken moment key (Ok (Some token)))
+  own_taken : (token : RegistryTokenType) → Some token ≡ unasked a → AlwaysOk (λ k. Settled (resolved_registry image) (repository_of image) a k) (answer shelf) Shown (taken moment key (Ok (Some token)))
   unfolding EvaluatesWith
   own_taken token own = record { gives = λ k h. (settled_kept (resolved_registry image) (repository_of image) a k token moment own h, inr own) }
 
   asked_gives : AlwaysOk I (answer shelf) Shown (token_asked ctx image Pull a)
   unfolding token_asked bind
-  asked_gives = by_kind a refl where
-    by_kind : (b : RegistryAuth) → a ≡ b → AlwaysOk I (answer shelf) Shown (bind (token_step s image b Pull) (taken moment key))
-    by_kind (Bearer text) is = spelled (own_taken (shown.Bearer (Token text)) (sym (ap shown_unasked is)))
-    by_kind (Basic user password) is = AlwaysOk-caught (taken moment key) (subst (λ b. AlwaysOk I (answer shelf) (λ (o : Option RegistryTokenType). o ≡ None) (registry_asked s image b Pull)) is asked_nothing) (λ o none. subst (λ (o : Option RegistryTokenType). AlwaysOk I (answer shelf) Shown (taken moment key (Ok o))) (sym none) (AlwaysOk-done (Ok None) (inl refl)))
-    by_kind Anonymous is = AlwaysOk-caught (taken moment key) (subst (λ b. AlwaysOk I (answer shelf) (λ (o : Option RegistryTokenType). o ≡ None) (registry_asked s image b Pull)) is asked_nothing) (λ o none. subst (λ (o : Option RegistryTokenType). AlwaysOk I (answer shelf) Shown (taken moment key (Ok o))) (sym none) (AlwaysOk-done (Ok None) (inl refl)))
+  asked_gives = by_unasked (unasked a) refl where
+    by_unasked : (o : Option RegistryTokenType) → unasked a ≡ o → AlwaysOk I (answer shelf) Shown (bind (unasked_or_asked s image a Pull o) (taken moment key))
+    by_unasked (Some token) is = spelled (own_taken token (sym is))
+    by_unasked None is = AlwaysOk-caught (taken moment key) asked_nothing (λ o none. subst (λ (o : Option RegistryTokenType). AlwaysOk I (answer shelf) Shown (taken moment key (Ok o))) (sym none) (AlwaysOk-done (Ok None) (inl refl)))
 
-  kept_gives : (o : Option RegistryTokenType) → NoneOr o (shown_unasked a) → AlwaysOk I (answer shelf) Shown (kept_or_asked ctx image Pull a o)
+  kept_gives : (o : Option RegistryTokenType) → NoneOr o (unasked a) → AlwaysOk I (answer shelf) Shown (kept_or_asked ctx image Pull a o)
   kept_gives None h = asked_gives
   kept_gives (Some token) (inl none) = absurd (cc none)
   kept_gives (Some token) (inr own) = AlwaysOk-done (Ok (Some token)) (inr own)
 
-  by_gives : (stored_is : Option RegistryAuth) (o : Option RegistryTokenType) → NoneOr stored_is (Some a) → NoneOr o (shown_unasked a) → AlwaysOk I (answer shelf) Shown (token_by ctx image Pull stored_is o)
+  by_gives : (stored_is : Option RegistryAuth) (o : Option RegistryTokenType) → NoneOr stored_is (Some a) → NoneOr o (unasked a) → AlwaysOk I (answer shelf) Shown (token_by ctx image Pull stored_is o)
   by_gives stored_is o (inl none) h = subst (λ (b : Option RegistryAuth). AlwaysOk I (answer shelf) Shown (token_by ctx image Pull b o)) (sym none) (AlwaysOk-done (Ok None) (inl refl))
   by_gives stored_is o (inr own) h = subst (λ (b : Option RegistryAuth). AlwaysOk I (answer shelf) Shown (token_by ctx image Pull b o)) (sym own) (kept_gives o h)
 
@@ -179,13 +174,12 @@ module _ {s : Settings} {registry : List ℕ} {shelf : Shelf} (home : IsHosted s
   -- ---- credentials that are passed in for a token
 
   step_gives : AlwaysOk I (answer shelf) Shown (token_step s image a Pull)
-  step_gives = by_kind a refl where
-    by_kind : (b : RegistryAuth) → a ≡ b → AlwaysOk I (answer shelf) Shown (token_step s image b Pull)
-    by_kind (Bearer text) is = AlwaysOk-done (Ok (Some (shown.Bearer (Token text)))) (inr (sym (ap shown_unasked is)))
-    by_kind (Basic user password) is = AlwaysOk-more Shown (subst (λ b. AlwaysOk I (answer shelf) (λ (o : Option RegistryTokenType). o ≡ None) (registry_asked s image b Pull)) is asked_nothing) (λ o none. inl none)
-    by_kind Anonymous is = AlwaysOk-more Shown (subst (λ b. AlwaysOk I (answer shelf) (λ (o : Option RegistryTokenType). o ≡ None) (registry_asked s image b Pull)) is asked_nothing) (λ o none. inl none)
+  step_gives = by_unasked (unasked a) refl where
+    by_unasked : (o : Option RegistryTokenType) → unasked a ≡ o → AlwaysOk I (answer shelf) Shown (unasked_or_asked s image a Pull o)
+    by_unasked (Some token) is = AlwaysOk-done (Ok (Some token)) (inr (sym is))
+    by_unasked None is = AlwaysOk-more Shown asked_nothing (λ o none. inl none)
 
-  own_kept : (token : RegistryTokenType) → Some token ≡ shown_unasked a → AlwaysOk (λ k. Settled (resolved_registry image) (repository_of image) a k) (answer shelf) (λ (o : Option (List ℕ)). Unit {0}) (kept_text moment key (Some token))
+  own_kept : (token : RegistryTokenType) → Some token ≡ unasked a → AlwaysOk (λ k. Settled (resolved_registry image) (repository_of image) a k) (answer shelf) (λ (o : Option (List ℕ)). Unit {0}) (kept_text moment key (Some token))
   unfolding EvaluatesWith bind
   own_kept token own = record { gives = λ k h. (settled_kept (resolved_registry image) (repository_of image) a k token moment own h, tt) }
 

@@ -60,9 +60,3 @@ module _ {K C : Type 0} {J : K → Type 0} (R : C → Type 0) {table : Request �
     gives = λ k is. EvaluatesWith-more table (λ (l : K × C) r. (J l.0 × Yields P r) × (l.1 ≡ k.1)) (λ (l : K × C) r. (J l.0 × R l.1) × Yields P r) (lifted p) k
         (EvaluatesWith-lifted table (λ l r. J l × Yields P r) p k.0 k.1 (h.gives k.0 is.0)) (λ l r found. ((found.0.0, subst R (sym found.1) is.1), found.0.1));
   }
-
-  pub Preserves-lifted : {A : Type 0} {p : Proto K A} → Preserves J table p → Preserves (λ (k : K × C). J k.0 × R k.1) table (lifted p)
-  Preserves-lifted {A} {p} h = record {
-    stays = λ k is. EvaluatesWith-more table (λ (l : K × C) r. J l.0 × (l.1 ≡ k.1)) (λ (l : K × C) r. J l.0 × R l.1) (lifted p) k
-        (EvaluatesWith-lifted table (λ l r. J l) p k.0 k.1 (h.stays k.0 is.0)) (λ l r found. (found.0, subst R (sym found.1) is.1));
-  }

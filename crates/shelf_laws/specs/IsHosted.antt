@@ -1,5 +1,5 @@
 -- Where a client's requests must go so that a shelf responds to them, and which client state may precede them.
-use Rattle.std.specs.Prelude.{◌≡◌, ◌⊎◌, ℕ, List, ◌++◌, Option, Some, None, IsTrue, codes}
+use Rattle.std.specs.Prelude.{◌≡◌, ℕ, List, ◌++◌, Option, Some, None, IsTrue, IfSome, codes}
 use Rattle.std.specs.FinMap as map
 use Rattle.url.specs.Parts.{Parts, serialize}
 use Rattle.oci_names.specs.declared.reference.Reference.{Reference}
@@ -10,14 +10,11 @@ use Rattle.oci_transport.specs.Headers.{is_header_value}
 use Rattle.oci_link.specs.Leads.{redirects_lead}
 use Rattle.oci_link.specs.declared.shelf.Shelf.{Shelf}
 use Rattle.oci_auth.specs.declared.auth.RegistryAuth.{RegistryAuth}
-use Rattle.oci_auth.specs.declared.auth.RegistryAuth.TheVariants.{Anonymous, Basic, Bearer}
 use Rattle.oci_auth.specs.declared.kept.KeptToken.{KeptToken}
 use Rattle.oci_auth.specs.declared.auth_state.AuthState.{AuthState}
-use Rattle.oci_auth.specs.declared.token.RegistryToken.TheVariants.{Token}
 use Rattle.oci_auth.specs.declared.token_type.RegistryOperation.TheVariants.{Pull}
-use Rattle.oci_auth.specs.declared.token_type.RegistryTokenType.{RegistryTokenType}
-use Rattle.oci_auth.specs.declared.token_type.RegistryTokenType.TheVariants as shown
-use Rattle.oci_auth.specs.Kept.{under, kept_under}
+use Rattle.oci_auth.specs.Auth.{unasked, authorization_of}
+use Rattle.oci_auth.specs.Kept.{under, kept_under, NoneOr}
 use Rattle.engine_terms.specs.Settings.{scheme_for}
 use Rattle.engine_terms.specs.declared.settings.Settings.{Settings}
 
@@ -45,26 +42,14 @@ pub record IsAt (registry : List ℕ) (shelf : Shelf) (image : Reference) : Type
   pub repository_is : repository_of image ≡ shelf.repository
   pub no_mirror : namespace_of image ≡ None
 
--- credentials that are a valid header value
+-- a token that is sent unasked is a valid header value
 abbrev pub CanBeShown : RegistryAuth → Type 0
-CanBeShown (Bearer token) = IsTrue (is_header_value token)
-CanBeShown (Basic user password) = Unit {0}
-CanBeShown Anonymous = Unit {0}
+CanBeShown a = IfSome (unasked a) (λ token. IsTrue (is_header_value (authorization_of token)))
 
--- the token that is sent to a registry that requires none
-abbrev pub shown_unasked : RegistryAuth → Option RegistryTokenType
-shown_unasked (Bearer token) = Some (shown.Bearer (Token token))
-shown_unasked (Basic user password) = None
-shown_unasked Anonymous = None
-
--- nothing is stored, or this
-abbrev pub NoneOr : {A : Type 0} → Option A → Option A → Type 0
-NoneOr kept a = (kept ≡ None) ⊎ (kept ≡ a)
-
--- no token is stored, or the one that these credentials are
+-- no token is stored, or the one that these credentials send unasked
 abbrev pub IsToken : RegistryAuth → Option KeptToken → Type 0
 IsToken a None = Unit {0}
-IsToken a (Some kept) = Some kept.token ≡ shown_unasked a
+IsToken a (Some kept) = Some kept.token ≡ unasked a
 
 -- no other credentials are stored for the registry, and no other token for its repository
 pub record Settled (registry repository : List ℕ) (a : RegistryAuth) (k : AuthState) : Type 0 where

@@ -2,7 +2,7 @@
 use Rattle.std.specs.Prelude.{ℕ, List, [], Option, Some, None, Result, Ok, Err, false, codes}
 use Rattle.std.specs.FinMap.{empty}
 use Rattle.oci_digests.specs.Names.{digest_text}
-use Rattle.oci_digests.specs.declared.digester.Algorithm.TheVariants.{Sha256}
+use Rattle.oci_names.specs.declared.algorithm.Algorithm.TheVariants.{Sha256}
 use Rattle.cosign_layers.specs.Checks.{input, layer_read}
 use Rattle.cosign_parts.specs.Trust.{trust}
 use Rattle.cosign_parts.specs.Verifier.{valid_in}

@@ -1,5 +1,6 @@
 ghost use Rattle.std.specs.Prelude.{◌≡◌, IfOk, Result};
-ghost use Rattle.cosign_layers.specs.Rejection.{Matches};
+ghost use Rattle.json_values.specs.Refusals.{Matches};
+ghost use Rattle.cosign_layers.specs.Rejection.{is_memory};
 ghost use Rattle.cosign_parts.specs.declared.layer.SignatureLayer.{SignatureLayer};
 ghost use Rattle.cosign_layers.specs.declared.rejection.LayerRejection.{LayerRejection};
 ghost use Rattle.timed_calls.specs.Bundle.{bundle_signature, signature_in};
@@ -41,7 +42,7 @@ fn signature_in(
     alloc: Global,
     read: &Result<SignatureLayer, LayerRejection>,
 ) -> Result<Option<Blob>, AllocError>
-    ensures { (said : Result SignatureLayer LayerRejection) → Matches read.now said
+    ensures { (said : Result SignatureLayer LayerRejection) → Matches is_memory read.now said
         → IfOk result (λ found. found ≡ signature_in said) }
 {
     match read {

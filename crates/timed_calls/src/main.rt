@@ -3,8 +3,8 @@
 //! `MIB` MiB as a stream (`stream MIB DIGEST`), or only hashes the same bytes (`hash MIB DIGEST`); its pieces are made
 //! when they are requested.
 //!
-//! The exit status is 1 if the digest differs, 2 for other arguments, 3 if the input is not a manifest, JSON or a bundle,
-//! 4 if it could not be read, 5 if the output could not be written, and 6 if memory ran out.
+//! The exit status is 1 if the digest differs, 2 for other arguments, 3 if the input is no manifest, JSON or bundle, 4
+//! if it could not be read, 5 if the output could not be written, and 6 if memory ran out.
 #![tactic(auto)]
 
 mod bundle;

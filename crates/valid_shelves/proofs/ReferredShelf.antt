@@ -14,8 +14,8 @@ use Rattle.oci_names.specs.Reference.{repository_of, digest_of, tag_of, reads_ba
 use Rattle.oci_names.specs.declared.reference.Reference.{Reference}
 use Rattle.oci_auth.specs.declared.auth.RegistryAuth.{RegistryAuth}
 use Rattle.oci_digests.specs.Names.{Names, digest_text}
-use Rattle.oci_digests.specs.declared.digester.Algorithm.{Algorithm}
-use Rattle.oci_digests.specs.declared.digester.Algorithm.TheVariants.{Sha256}
+use Rattle.oci_names.specs.declared.algorithm.Algorithm.{Algorithm}
+use Rattle.oci_names.specs.declared.algorithm.Algorithm.TheVariants.{Sha256}
 use Rattle.oci_manifests.specs.declared.document.OciManifest.{OciManifest}
 use Rattle.oci_manifests.specs.declared.document.OciManifest.TheVariants.{Image, ImageIndex}
 use Rattle.oci_manifests.specs.declared.blob.ImageLayer.{ImageLayer}
@@ -29,7 +29,8 @@ use Rattle.engine_terms.specs.declared.settings.Settings.{Settings}
 use Rattle.engine_rows.specs.Image.{layer_of}
 use Rattle.shelf_laws.specs.Shelves.{FitsLimit, HasDocument, HasBlob, HasLayer, HasBlobs, LeadsTo, ImageOn, layers_on, ListsBy, Lists}
 use Rattle.shelf_laws.proofs.ShelfReferences.{tag_named}
-use Rattle.shelf_laws.proofs.References.{spelled, digest_reads_back, digest_is_digest, digest_is_known}
+use Rattle.shelf_laws.proofs.References.{spelled, digest_reads_back}
+use Rattle.oci_digests.proofs.Algorithms.{digest_is_digest, digest_is_known}
 use Rattle.cosign_layers.specs.Satisfying.{PolicyContext}
 use Rattle.cosign_rows.specs.References.{digest_reference}
 use Rattle.cosign_rows.specs.Search.{bundle_type}

@@ -1,27 +1,17 @@
--- Which shelves give a verified image, to which clients.
-use Rattle.std.specs.Prelude.{ℕ, Bool, List}
+-- Which shelves give a verified image.
+use Rattle.std.specs.Prelude.{ℕ, List}
 use Rattle.oci_names.specs.Reference.{repository_of}
 use Rattle.oci_names.specs.declared.reference.Reference.{Reference}
-use Rattle.oci_auth.specs.AuthState.{fresh}
 use Rattle.oci_auth.specs.declared.auth.RegistryAuth.{RegistryAuth}
-use Rattle.oci_digests.specs.declared.digester.Algorithm.{Algorithm}
+use Rattle.oci_names.specs.declared.algorithm.Algorithm.{Algorithm}
 use Rattle.oci_link.specs.declared.shelf.Shelf.{Shelf}
 use Rattle.engine_terms.specs.declared.settings.Settings.{Settings}
-use Rattle.registry_calls.specs.Clients.{no_answers}
 use Rattle.cosign_parts.specs.Trust.{Trust}
 use Rattle.cosign_layers.specs.Satisfying.{CustomVerdict, policy_context}
 use Rattle.cosign_layers.specs.declared.policy.PullPolicy.{PullPolicy}
-use Rattle.cosign_shelves.specs.Settled.{IsSettled}
 use Rattle.cosign_shelves.specs.Shelves.{ValidShelf, WideShelf}
 use Rattle.cosign_shelves.specs.Small.{Packed, shelf_of, IsSmall}
 use Rattle.valid_shelves.specs.Referred.{referred_shelf, IsReferred}
-
--- A client that has stored no credentials and no tokens, and has cached nothing, is settled for every image, shelf and
--- credentials. Tokens that do not say when they expire do so after `expiry` seconds.
-abbrev pub NewClientsAreSettled : Type 0
-NewClientsAreSettled =
-    (s : Settings) (image : Reference) (a : RegistryAuth) (shelf : Shelf) (expiry : ℕ) (caching : Bool)
-    → IsSettled s image a shelf (fresh expiry, no_answers caching)
 
 -- what is valid is wide
 abbrev pub ValidShelvesAreWide : {V : Type 0} {H : V → Type 0} → PullPolicy V H → Type 0

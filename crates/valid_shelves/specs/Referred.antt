@@ -6,7 +6,7 @@ use Rattle.oci_names.specs.Reference.{digest_of, tag_of, resolved_registry, read
 use Rattle.oci_names.specs.declared.reference.Reference.{Reference}
 use Rattle.oci_auth.specs.declared.auth.RegistryAuth.{RegistryAuth}
 use Rattle.oci_digests.specs.Names.{digest_text}
-use Rattle.oci_digests.specs.declared.digester.Algorithm.{Algorithm}
+use Rattle.oci_names.specs.declared.algorithm.Algorithm.{Algorithm}
 use Rattle.oci_manifests.specs.declared.document.OciManifest.{OciManifest}
 use Rattle.oci_manifests.specs.declared.document.OciManifest.TheVariants.{Image, ImageIndex}
 use Rattle.oci_manifests.specs.declared.index.OciImageIndex.{OciImageIndex}

@@ -1,17 +1,11 @@
-// Laws of shelves and clients, as contracts of functions that do nothing.
+// Laws of shelves, as contracts of functions that do nothing.
 ghost use Rattle.valid_shelves.specs.Laws.{
-  NewClientsAreSettled,
   ReferredShelvesAreWide,
   SmallShelvesAreValid,
   ValidShelvesAreWide,
 };
 
 use cosign_layers::PullPolicy;
-
-/// Proves that a new client is settled for every image, shelf and credentials.
-pub fn new_clients_are_settled()
-    ensures { NewClientsAreSettled }
-{}
 
 /// Proves that under this policy each `ValidShelf` is a `WideShelf`.
 pub fn valid_shelves_are_wide(policy: &PullPolicy)
