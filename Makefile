@@ -5,6 +5,7 @@ SOURCES := $(wildcard crates/*/src/*.rt crates/*/specs/*.antt) $(shell find crat
 PROGRAM := crates/pull_program/out/pull_program
 CORE := crates/roksnaep_core/out/roksnaep_core
 TIMED := crates/timed_calls/out/timed_calls
+PUSHES := crates/live_pushes/out/live_pushes
 PREFIX ?= /usr/local
 VERSION = $(shell sed -n 's/^VERSION = "\(.*\)"/\1/p' host/release.py)
 
@@ -71,9 +72,12 @@ $(CORE): $(SOURCES)
 $(TIMED): $(SOURCES)
 	cd crates/timed_calls && xargs rt run -- < args > /dev/null
 
-# Pulls from a real registry on this machine, and sees what is refused: it needs docker-registry, openssl and skopeo; umoci, buildah and cosign are
+$(PUSHES): $(SOURCES)
+	cd crates/live_pushes && rt run < stdin > /dev/null
+
+# Pulls from a real registry on this machine and pushes to it, and sees what is refused: it needs docker-registry, openssl and skopeo; umoci, buildah and cosign are
 # tried if they are installed.
-live: $(wildcard $(CORE)) host
+live: $(wildcard $(CORE) $(PUSHES)) host
 	tests/live --bench
 
 # Tests the host alone, over a core that believes everything.

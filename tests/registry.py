@@ -8,6 +8,7 @@ import http.server
 import json
 import random
 import socket
+import ssl
 import subprocess
 import threading
 import time
@@ -45,6 +46,14 @@ def ephemeral(folder, name):
     ran("openssl", "ecparam", "-name", "prime256v1", "-genkey", "-noout", "-out", folder / f"{name}.key")
     ran("openssl", "ec", "-in", folder / f"{name}.key", "-pubout", "-out", folder / f"{name}.pub")
     return folder / f"{name}.key", folder / f"{name}.pub"
+
+
+def json_token(key, certificate, claims):
+    """A JSON web token, signed with an RSA key whose certificate is in its head."""
+    der = ssl.PEM_cert_to_DER_cert(certificate.read_text())
+    parts = [{"typ": "JWT", "alg": "RS256", "x5c": [base64.b64encode(der).decode()]}, claims]
+    text = b".".join(base64.urlsafe_b64encode(json.dumps(part).encode()).rstrip(b"=") for part in parts)
+    return (text + b"." + base64.urlsafe_b64encode(ran("openssl", "dgst", "-sha256", "-sign", key, input=text)).rstrip(b"=")).decode()
 
 
 # ---- an image as a layout, and its signature
