@@ -163,6 +163,11 @@ def base_run():
     return answers, asked, signature
 
 
+def both_kinds(layers):
+    """A document that reads as a manifest with these layers and as an index without entries."""
+    return compact({"schemaVersion": 2, "config": descriptor(CONFIG, "{}"), "layers": layers, "manifests": []})
+
+
 def base_case():
     answers, asked, signature = base_run()
     return case(answers, [signature]), ["moment 100"] + asked + image_lines(signature)
@@ -229,7 +234,43 @@ def pulls():
     ]:
         lines = ["moment 100"] + asked + [f"refused RegistryPullError {tag} {error}"]
         write(f"pulls/{title}", case(answers[:-1] + [given], [signature]), lines, 1)
+    modules()
+    docker_hub()
     twelve_layers()
+
+
+def modules():
+    """Images of one WebAssembly module, as an OCI manifest and as a Docker one."""
+    wasm = "application/vnd.wasm.content.layer.v1+wasm"
+    module = descriptor(wasm, CONTENT, {"org.opencontainers.image.title": "module.wasm"})
+    for title, kind, config in [
+        ("a_module", MANIFEST, "application/vnd.wasm.config.v1+json"),
+        ("a_module_of_docker", "application/vnd.docker.distribution.manifest.v2+json", "application/vnd.docker.container.image.v1+json"),
+    ]:
+        image = compact({"schemaVersion": 2, "mediaType": kind, "config": descriptor(config, "{}"), "layers": [module]})
+        signature = payload(image=image)
+        answers, asked = search(manifest("{}", [signed(signature)]), [signature], image)
+        answers += served(image) + served("{}") + served(CONTENT)
+        asked += requests("manifests/" + digest(image), "blobs/" + digest("{}"), "blobs/" + digest(CONTENT))
+        lines = ["ok " + digest(image), "manifest " + digest(image)] + image_lines(signature)[2:]
+        write(f"pulls/{title}", case(answers, [signature], accepted=[wasm]), ["moment 100"] + asked + lines)
+
+
+def docker_hub():
+    """A name alone is one of Docker Hub's library, and so are the tags of signatures and of referrers that are built from it."""
+    hub, name = "https://index.docker.io/v2/", "docker.io/library/alpine"
+    answers, asked, signature = base_run()
+    at_hub = [a.replace(f"{BASE}app/manifests/v1", f"{BASE}app/manifests/latest").replace(f"{BASE}app/", f"{hub}library/alpine/").replace(BASE, hub) for a in asked]
+    for title, reference in [("a_name_alone", "alpine"), ("a_name_of_the_library", "library/alpine"), ("a_name_of_docker_io", "docker.io/alpine")]:
+        write(f"pulls/{title}", case(answers, [signature], reference=reference, protocol=None), ["moment 100"] + at_hub + image_lines(signature))
+    none = [TOKEN, answer(status=404)]
+    url, fallback = f"{hub}library/alpine/manifests/{TAG}", [TOKEN, answer("no", status=500)]
+    lines = ["moment 100"] + at_hub[:4] + at_hub[10:15] + ["refused Unsatisfied " + compact(digest(IMAGE))]
+    lines += [f"skipped Source Tag Refused RegistryPullManifestError {compact(f'{name}:{TAG}')} ServerError 404 {compact(url)} 0"]
+    of_tag = f"ServerError 500 {compact(url.removesuffix('.sig'))} 2"
+    lines += [f"skipped Source Referrers Refused RegistryPullManifestError {compact(f'{name}@{digest(IMAGE)}')} {of_tag}"]
+    given = [TOKEN, NAMED] + none + [TOKEN] + none + fallback
+    write("pulls/a_name_alone_without_signatures", case(given, reference="alpine", protocol=None), lines, 1)
 
 
 def twelve_layers():
@@ -365,7 +406,19 @@ def referrers():
     one("an_empty_list", listed + [unsatisfied, skipped_tag], referrers=answers_to(index_of()))
     refused = f"skipped Source Referrers Refused RegistryPullManifestError {compact(REGISTRY + '/app@' + digest(IMAGE))} "
     one("a_manifest_under_the_tag_of_referrers", listing(digest(IMAGE)) + [unsatisfied, skipped_tag, refused + f"SpecViolationError ReferrersTag {compact(fallback)}"], documents=[referrer], tags={fallback: digest(referrer)})
+    both = both_kinds([descriptor(BUNDLE, content)])
     one("a_list_that_does_not_read", listed + [unsatisfied, skipped_tag, refused + "ManifestParsingError 2"], referrers=answers_to("{}"))
+    for title, text, error in [
+        ("an_array_in_place_of_the_list", "[]", "ManifestParsingError 2"),
+        ("a_manifest_in_place_of_the_list", referrer, f"ManifestParsingError {len(referrer)}"),
+        ("a_list_that_is_a_manifest_too", both, f"AmbiguousManifest {len(both)}"),
+    ]:
+        one(title, listed + [unsatisfied, skipped_tag, refused + error], referrers=answers_to(text), **held)
+    lines = listing(digest(IMAGE)) + [unsatisfied, skipped_tag, refused + f"AmbiguousManifest {len(both)}"]
+    one("a_list_that_is_a_manifest_too_under_the_tag_of_referrers", lines, documents=[both], blobs=[content], tags={fallback: digest(both)})
+    told = [f"skipped Referrer {compact(digest(both))} Refused RegistryPullError {compact(f'{REGISTRY}/app@{digest(both)}')} AmbiguousManifest {len(both)}"]
+    lines = listed + requests("manifests/" + digest(both)) + [unsatisfied, skipped_tag] + told
+    one("a_referrer_that_is_an_index_too", lines, documents=[both], blobs=[content], referrers=answers_to(index_of(descriptor(MANIFEST, both))))
     # An entry that is refused does not hide the others.
     other, third = manifest("{}", [descriptor(LAYER, "x")]), refers("third")
     entries = [dict(descriptor(MANIFEST, referrer), digest="x"), descriptor(MANIFEST, other), descriptor(MANIFEST, third), descriptor(MANIFEST, referrer)]
@@ -678,6 +731,12 @@ def indexes():
     one("no_platform", index, None, [], "ImageIndexParsingNoPlatformResolverError")
     one("an_index_behind_an_index", behind, "linux/amd64", [index], f"ImageManifestNotFoundError {compact(digest(index))}")
     one("an_entry_that_is_no_document", index, by_x, ["x"], "VersionedParsingError 1")
+    # An array is no document, and a document that reads as both kinds is refused.
+    both = both_kinds([descriptor(LAYER, CONTENT)])
+    one("an_image_that_is_an_array", "[]", None, [], "VersionedParsingError 2")
+    one("an_entry_that_is_an_array", index_of(entry("amd64", "[]")), "linux/amd64", ["[]"], "VersionedParsingError 2")
+    one("an_image_that_is_an_index_too", both, None, [], f"AmbiguousManifest {len(both)}")
+    one("an_entry_that_is_an_index_too", index_of(entry("amd64", both)), "linux/amd64", [both], f"AmbiguousManifest {len(both)}")
 
 
 # ---- layers that may be somewhere else too
@@ -766,7 +825,7 @@ def signatures():
     unsatisfied = "refused Unsatisfied " + compact(digest(IMAGE))
     front = ["moment 100"] + requests(("HEAD", "manifests/v1"), f"manifests/{TAG}") + listing(digest(IMAGE)) + [unsatisfied]
     both = f"DigestError VerificationError {compact(digest('{}'))} {compact(digest('x'))}"
-    ambiguous = compact({"schemaVersion": 2, "config": descriptor(CONFIG, "{}"), "layers": [], "manifests": []})
+    ambiguous = both_kinds([])
     refused = [
         ("a_send_that_fails", "fail", "TransportFault"),
         ("status_401", answer(status=401), f"UnauthorizedError {url}"),
@@ -781,6 +840,7 @@ def signatures():
         ("a_header_of_other_bytes", answer("x", digest("{}")), both),
         ("a_header_past_ascii", answer("x", "é"), "DigestError InvalidHeader 2"),
         ("a_body_that_is_no_json", answer("x"), "VersionedParsingError 1"),
+        ("a_body_that_is_an_array", answer("[]"), "VersionedParsingError 2"),
         ("a_body_with_a_float", answer('{"schemaVersion":2.0}'), "VersionedParsingError 21"),
         ("schema_version_1", answer('{"schemaVersion":1}'), "UnsupportedSchemaVersionError 1"),
         ("schema_version_minus_2", answer('{"schemaVersion":-2}'), "UnsupportedSchemaVersionError -2"),
@@ -865,6 +925,44 @@ def tokens():
     day = [bearer, answer(compact({"token": last})), refused, refused, bearer, answer(compact({"token": last})), refused]
     lines = ["moment 100"] + first + ["moment 86500", asked, refusal, "moment 86501"] + first
     write("tokens/a_token_of_the_greatest_moment", case(day, moments=[100, 86500, 86501], **basic), lines, 1)
+    first_of_referrers()
+
+
+def first_of_referrers():
+    """Before the referrers a token is asked for, and there a refused step refuses the source: its requests are not made."""
+    answers, asked, signature = base_run()
+    secret, other = "http://u:p@auth.example/t", "ftp://auth.example/t"
+    bearer = challenged(f'Bearer realm="{REALM}"')
+    url = compact(f"{BASE}app/manifests/{TAG}")
+    unsigned = ["refused Unsatisfied " + compact(digest(IMAGE))]
+    unsigned += [f"skipped Source Tag Refused RegistryPullManifestError {compact(f'{REGISTRY}/app:{TAG}')} ServerError 404 {url} 0"]
+    for title, step, error in [
+        ("a_refused_realm", [bearer, answer("no", status=403)], "AuthenticationFailure 2"),
+        ("a_realm_that_is_not_found", [bearer, answer(status=404)], "AuthenticationFailure 0"),
+        ("another_status_of_success", [bearer, answer('{"token":"t1"}', status=201)], "AuthenticationFailure 14"),
+        ("no_token", [bearer, answer('{"token":1}')], "RegistryTokenDecodeError 11"),
+        ("a_realm_that_fails", [bearer, "fail"], "TransportFault"),
+        ("a_realm_with_a_user_name", [challenged(f'Bearer realm="{secret}"')], f"UrlParseError {compact(secret)}"),
+        ("a_realm_of_another_scheme", [challenged(f'Bearer realm="{other}"')], f"UrlParseError {compact(other)}"),
+    ]:
+        steps = [f"GET {BASE}"] + [f"GET {REALM}{SCOPE}"] * (len(step) - 1)
+        lines = ["moment 100"] + asked[:10] + steps + asked[15:] + image_lines(signature)
+        write(f"tokens/{title}_before_the_referrers", case(answers[:10] + step + answers[15:], [signature]), lines)
+        told = f"skipped Source Referrers Refused RegistryFetchManifestError {compact(f'{REGISTRY}/app@{digest(IMAGE)}')} {error}"
+        lines = ["moment 100"] + asked[:4] + steps + unsigned + [told]
+        write(f"tokens/{title}_and_no_signatures", case(answers[:3] + [answer(status=404)] + step, [signature]), lines, 1)
+    # A step that is refused before each request gives none a token, and refuses the referrers alone.
+    whole = [f"GET {BASE}", f"GET {REALM}{SCOPE}"]
+    refused = [bearer, answer("no", status=403)]
+    given, lines = [], ["moment 100"]
+    for at in (1, 3, 5, 7, 9, None, 16, 18, 20):
+        given += refused + ([] if at is None else [answers[at]])
+        lines += whole + ([] if at is None else [asked[at]])
+    basic = {"auth": {"basic": ["user", "secret"]}}
+    write("tokens/a_realm_that_refuses_each_step", case(given, [signature], **basic), lines + image_lines(signature))
+    each = [challenged(f'Bearer realm="{secret}"') if a is TOKEN else a for a in answers]
+    lines = ["moment 100"] + asked[:11] + asked[15:] + image_lines(signature)
+    write("tokens/a_realm_with_a_user_name_at_each_step", case(each[:11] + each[15:], [signature], **basic), lines)
 
 
 # ---- references
@@ -875,6 +973,11 @@ def references():
     fetched = [
         ("a_name_alone", "busybox", f"{hub}library/busybox/manifests/latest", "docker.io/library/busybox:latest"),
         ("a_name_of_a_user", "some/app:1", f"{hub}some/app/manifests/1", "docker.io/some/app:1"),
+        ("a_name_alone_with_a_digest", f"busybox@{digest('x')}", f"{hub}library/busybox/manifests/{digest('x')}", f"docker.io/library/busybox@{digest('x')}"),
+        ("a_name_of_the_library", "library/alpine", f"{hub}library/alpine/manifests/latest", "docker.io/library/alpine:latest"),
+        ("a_name_of_docker_io", "docker.io/alpine:3", f"{hub}library/alpine/manifests/3", "docker.io/library/alpine:3"),
+        ("a_name_of_index_docker_io", "index.docker.io/alpine", f"{hub}library/alpine/manifests/latest", "docker.io/library/alpine:latest"),
+        ("a_name_of_a_user_of_docker_io", "docker.io/some/app", f"{hub}some/app/manifests/latest", "docker.io/some/app:latest"),
         ("a_registry_with_a_port", "r.example:8443/a/b", "https://r.example:8443/v2/a/b/manifests/latest", "r.example:8443/a/b:latest"),
         ("a_tag_and_a_digest", f"r.example/a:1@{digest('x')}", f"https://r.example/v2/a/manifests/{digest('x')}", f"r.example/a:1@{digest('x')}"),
     ]
