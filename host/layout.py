@@ -14,7 +14,7 @@ from typing import Any, BinaryIO, Iterable
 
 from host.core import PIECE, Frame
 
-DIGEST = re.compile(r"(sha256|sha384|sha512):([0-9a-f]+)")
+DIGEST = re.compile(r"([a-z0-9]+(?:[+._-][a-z0-9]+)*):([0-9a-f]+)")  # OCI image specification, "Digests"
 NAME, OURS, BUNDLE = "org.opencontainers.image.ref.name", "dev.roksnaep.", "application/vnd.dev.sigstore.bundle"
 MANIFEST, INDEX = "application/vnd.oci.image.manifest.v1+json", "application/vnd.oci.image.index.v1+json"
 

@@ -42,7 +42,8 @@ class Rule:
         names = [(str(one.exact[0]), one.exact[1]) for one in alone if None not in one.exact]
         return {"keys": [base64.b64encode(key).decode() for key in self.keys],
                 "constraints": [{"annotations": self.annotations}] + [{"url" if "://" in one else "email": one, "issuer": by} for one, by in names],
-                "log_keys": {name: base64.b64encode(log.key).decode() for name, log in self.logs.items()}}
+                "log_keys": {name: base64.b64encode(log.key).decode() for name, log in self.logs.items()},
+                "statements": self.predicates}
 
 
 def annotations_of(pairs: list[str]) -> dict[str, str]:

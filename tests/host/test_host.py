@@ -16,6 +16,7 @@ from support import IMAGE, LAYERS, MANIFEST, TOP, WithFolder, digest_of, openssl
 
 import host.command
 import host.layout
+from host.policy import COSIGN_SIGN
 from host.refusals import Refusals
 
 
@@ -229,7 +230,7 @@ class Command(WithFolder):
 
     def test_settings(self):
         status, _, err = self.run_it("verify", "r.example/a/b:c", "--key", str(self.key), "--annotation", "a=1", "--annotation", "b=x=y",
-                                     "--platform", "linux/arm64", "--type", "x/y", "-v", fake="settings")
+                                     "--platform", "linux/arm64", "--type", "x/y", "--predicate-type", "https://slsa.dev/provenance/v1", "-v", fake="settings")
         self.assertEqual(status, 1)
         found = json.loads(json.loads(err.splitlines()[1].partition("Settings ")[2]))
         self.assertEqual(found.pop("keys"), [base64.b64encode(self.key.read_bytes()).decode()])
@@ -237,7 +238,8 @@ class Command(WithFolder):
         accepted = found.pop("accepted")
         self.assertTrue({"application/vnd.oci.image.layer.v1.tar+gzip", "x/y"} < set(accepted) and not any("wasm" in text for text in accepted))
         self.assertEqual(found, {"frame": "settings", "reference": "r.example/a/b:c", "protocol": "https", "platform": "linux/arm64", "auth": "anonymous",
-                                 "constraints": [{"annotations": {"a": "1", "b": "x=y"}}], "log_keys": {}, "blobs": False})
+                                 "constraints": [{"annotations": {"a": "1", "b": "x=y"}}], "log_keys": {}, "blobs": False,
+                                 "statements": [COSIGN_SIGN, "https://slsa.dev/provenance/v1"]})
 
     def test_tls(self):
         openssl("req", "-x509", "-newkey", "ec", "-pkeyopt", "ec_paramgen_curve:prime256v1", "-nodes", "-keyout", self.folder / "tls.key", "-out", self.folder / "tls.pem",

@@ -45,7 +45,8 @@ class Rules(WithFolder):
     def test_keys(self):
         (self.folder / "both.pub").write_bytes(pem(self.keys["a"]) + pem(self.keys["b"]))
         rule = Rule([self.folder / "both.pub"], [], {"stage": "production"})
-        self.assertEqual(rule.settings(), {"keys": [self.key("a"), self.key("b")], "constraints": [{"annotations": {"stage": "production"}}], "log_keys": {}})
+        self.assertEqual(rule.settings(), {"keys": [self.key("a"), self.key("b")], "constraints": [{"annotations": {"stage": "production"}}], "log_keys": {},
+                                           "statements": [COSIGN_SIGN]})
         self.assertEqual(set(rule.keys.values()), {str(self.folder / "both.pub")})
         self.assertEqual(rule.predicates, [COSIGN_SIGN])
         rule = Rule([self.folder / "a.pub", self.folder / "a.pub", self.folder / "b.pub"], [], {})
@@ -64,7 +65,7 @@ class Rules(WithFolder):
     def test_an_identity_is_checked_by_the_core_too(self):
         for who, constraint in ((WHO, {"email": WHO, "issuer": ISSUER}), (URL, {"url": URL, "issuer": ISSUER})):
             settings = Rule([], [Identity(who, None, ISSUER, None)], {"a": "b"}, self.root).settings()
-            self.assertEqual(settings, {"keys": [], "constraints": [{"annotations": {"a": "b"}}, constraint], "log_keys": self.logs()})
+            self.assertEqual(settings, {"keys": [], "constraints": [{"annotations": {"a": "b"}}, constraint], "log_keys": self.logs(), "statements": [COSIGN_SIGN]})
         exact = Identity(WHO, None, ISSUER, None)
         # where somebody else may sign as well, it is no constraint of all signatures
         for keys, identities in (([self.folder / "a.pub"], [exact]), ([], [exact, exact]), ([], [Identity(None, "x", ISSUER, None)]), ([], [Identity(WHO, None, None, "x")])):
@@ -135,7 +136,7 @@ rules:
     predicateTypes: [https://example.com/other]
 """).for_reference("r.example/team/app:v1")
         self.assertEqual(rule.settings(), {"keys": [self.key("a"), self.key("b")], "constraints": [{"annotations": {"stage": "production", "number": "1"}}],
-                                           "log_keys": self.logs()})
+                                           "log_keys": self.logs(), "statements": [COSIGN_SIGN, "https://example.com/other"]})
         self.assertEqual((rule.require_log, rule.predicates), (True, [COSIGN_SIGN, "https://example.com/other"]))
         self.assertEqual([one.accepts((WHO, ISSUER)) for one in rule.identities], [True, False])
         self.assertEqual([one.accepts((URL, ISSUER)) for one in rule.identities], [False, True])
