@@ -25,9 +25,6 @@ const PAYLOAD: &str = "{\"critical\":{\"identity\":{\"docker-reference\":\"local
 const PAYLOAD_DIGEST: &str =
     "sha256:bec3f566a399bddd277a387434dcaf295311323236c6b1e2b5dd93ccd6795098";
 
-const SIGNATURE_TAG: &str =
-    "sha256-517b86da29754bfa57e312c35d4cf22caa38dbce39ecd24684830c1f9777a635.sig";
-
 const SIGNATURES: &str =
     "{\"schemaVersion\":2,\"mediaType\":\"application/vnd.oci.image.manifest.v1+json\",\
         \"config\":{\"mediaType\":\"application/vnd.oci.image.config.v1+json\",\
@@ -251,43 +248,4 @@ fn search(alloc: Global, count: usize) -> Option<(usize, usize)> {
 #[test]
 fn a_search_collects_the_layers_under_the_tag(rt: HostRuntime) {
     assert!(rt; search(rt.alloc(), 13) == Some((1, 0)));
-}
-
-// Whether the tag is the signature tag of the returned digest.
-fn names_tag(found: &Result<(OciReference, Text), SigstoreError>) -> Option<bool> {
-    match found {
-        Ok(found) => Some(found.0.tag()? == SIGNATURE_TAG),
-        Err(_) => None,
-    }
-}
-
-fn drop_tag(_found: Result<(OciReference, Text), SigstoreError>) {}
-
-fn is_tag(
-    alloc: Global,
-    client: &mut Client,
-    script: &mut Script,
-    image: &OciReference,
-) -> Option<bool> {
-    let found = client.triangulate(alloc, script, 100, image, &Auth::Anonymous);
-    let named = names_tag(&found);
-    drop_tag(found);
-    named
-}
-
-fn triangulate_by(alloc: Global, client: &mut Client) -> Option<bool> {
-    let given = ANSWERS.get(..2)?;
-    let mut script = script(alloc, given).ok()?;
-    let image = OciReference::parse(alloc, IMAGE).ok()?;
-    is_tag(alloc, client, &mut script, &image)
-}
-
-fn triangulate(alloc: Global) -> Option<bool> {
-    let mut client = client(alloc)?;
-    triangulate_by(alloc, &mut client)
-}
-
-#[test]
-fn the_digest_gives_the_signature_tag(rt: HostRuntime) {
-    assert!(rt; triangulate(rt.alloc()) == Some(true));
 }
