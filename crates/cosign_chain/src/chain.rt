@@ -51,9 +51,11 @@ pub fn check_chain<V: SignatureVerifier, O: Offline>(
     Ok(stood)
 }
 
-// Whether the layer stands for the image of this digest.
+/// Returns whether the layer stands for the image of this digest: it is what its bytes and annotations state, is about
+/// the digest, is signed under its certificate's key or one of the policy's, and is accepted by each constraint of a
+/// policy that has at least one. Fails only if memory runs out.
 #[tactic(auto, using(crate::proofs::LayerSatisfies::standing_rules))]
-fn stands_for<V: SignatureVerifier, O: Offline>(
+pub fn stands_for<V: SignatureVerifier, O: Offline>(
     alloc: Global,
     policy: &PullPolicy,
     log_keys: &LogKeys,

@@ -9,7 +9,7 @@ ghost use Rattle.cosign_chain.specs.Documents.{document_in, is_first, is_led, is
 ghost use Rattle.cosign_chain.specs.SameManifest.{same_option};
 
 use crate::image::VerifiedImage;
-use crate::same_manifest::same_manifest;
+use crate::manifest_fields::same_manifest;
 use json_values::{Blob, Text, read_json};
 use oci_descriptors::ResolverPromise;
 use oci_digests::names_digest;
@@ -98,9 +98,10 @@ fn is_manifest(manifest: &OciImageManifest, document: &Option<OciManifest>) -> b
     }
 }
 
-// Returns the document that the bytes are, if they are one of the supported version.
-fn document_in(alloc: Global, bytes: &Blob) -> Result<Option<OciManifest>, AllocError>
-    ensures { IfOk result (λ document. document ≡ document_in bytes.now) }
+/// Returns the manifest or the index that the bytes are, if they are JSON of the supported version that parses as one
+/// and not as the other, and `None` otherwise. Fails only if memory runs out.
+pub fn document_in(alloc: Global, bytes: &Blob) -> Result<Option<OciManifest>, AllocError>
+    ensures reads { IfOk result (λ document. document ≡ document_in bytes.now) }
 {
     let Some(json) = read_json(alloc, bytes.as_slice())? else {
         return Ok(None);

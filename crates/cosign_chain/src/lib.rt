@@ -6,10 +6,12 @@ mod chain;
 mod documents;
 mod image;
 mod links;
+mod manifest_fields;
 mod same;
 mod same_layer;
-mod same_manifest;
 
-pub use chain::check_chain;
+pub use chain::{check_chain, stands_for};
+pub use documents::document_in;
 pub use image::VerifiedImage;
 pub use links::check_links;
+pub use manifest_fields::same_manifest;

@@ -3,8 +3,8 @@ ghost use Rattle.std.specs.Prelude.{◌≡◌};
 ghost use Rattle.cosign_chain.specs.SameLayer.{same_certificate, same_entry, same_reading, same_signing, same_vouched};
 ghost use Rattle.cosign_chain.specs.SameManifest.{same_option};
 
+use crate::manifest_fields::same_text;
 use crate::same::same_value;
-use crate::same_manifest::same_text;
 use cosign_parts::{CertificateSignature, LogEntryBundle, SignatureLayer, SimpleSigning, Vouched};
 
 pub(crate) fn same_reading(a: &SignatureLayer, b: &SignatureLayer) -> bool

@@ -5,5 +5,5 @@
 mod pull;
 mod verified;
 
-pub use pull::pull_image;
+pub use pull::{document_in, pull_chosen, pull_image};
 pub use verified::pull_verified;

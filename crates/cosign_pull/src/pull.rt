@@ -62,13 +62,14 @@ fn named_by_reference(
     }
 }
 
-// The document of this reference.
-fn document_in(
+/// Returns the manifest or the index that the bytes are. Fails with the error of the comparison if the reference has a
+/// digest that does not name the bytes, then as `read_document` fails on the bytes.
+pub fn document_in(
     alloc: Global,
     image: &Reference,
     bytes: &Blob,
 ) -> Result<OciManifest, OciDistributionError>
-    ensures { Matches engine_is_memory result (document_in image.now bytes.now) }
+    ensures reads { Matches engine_is_memory result (document_in image.now bytes.now) }
 {
     named_by_reference(alloc, image, bytes)?;
     let document = read_document(alloc, bytes)?;
@@ -250,8 +251,11 @@ fn pull_entry<C: ClientCapabilities, T: Transport>(
     })
 }
 
-// The document's manifest, or that of an index's entry.
-fn pull_chosen<C: ClientCapabilities, T: Transport>(
+/// Returns the document's own manifest with the bytes `first`, or that of the entry of the index that the client's
+/// platform resolver selects, requested by its digest in the source's repository. Fails as the client's
+/// `pull_manifest_raw` fails, and if the resolver selects no entry or the entry's document is no manifest; an error
+/// names the source.
+pub fn pull_chosen<C: ClientCapabilities, T: Transport>(
     alloc: Global,
     client: &mut C,
     transport: &mut T,
@@ -260,7 +264,7 @@ fn pull_chosen<C: ClientCapabilities, T: Transport>(
     first: &Blob,
     document: OciManifest,
 ) -> Result<PulledManifest, SigstoreError>
-    ensures { (s : Settings) → ClientMeets is_memory s
+    ensures run { (s : Settings) → ClientMeets is_memory s
         (manifest_row (within s asked.now.moment) source.now asked.now.auth.now first.now document)
         (C.state client.old) (C.state client.new) (T.state transport.old) (T.state transport.new) result }
 {

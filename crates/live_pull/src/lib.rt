@@ -10,6 +10,6 @@ mod settings;
 mod statements;
 mod status;
 
-pub use live::{Ended, run};
+pub use live::{Ended, run, serve};
 pub use settings::LiveSettings;
 pub use status::Status;

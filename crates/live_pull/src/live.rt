@@ -186,13 +186,15 @@ fn end_with<S, K>(status: Status, streams: Streams<S, K>) -> Ended<S, K>
     Ended { status, streams }
 }
 
-fn serve<S: Source, K: Sink>(
+/// Does what `run` does after the settings were received: searches signature layers, asks the host about them, pulls
+/// the image under its answers, and sends it, or why it was refused. Returns the exit status and the streams.
+pub fn serve<S: Source, K: Sink>(
     alloc: Global,
     streams: Streams<S, K>,
     settings: LiveSettings,
 ) -> Ended<S, K>
     requires { IsReady settings }
-    ensures { Ends (λ r. Live settings r
+    ensures status { Ends (λ r. Live settings r
         (wire S.state K.state streams) (wire S.state K.state result.streams))
         result.status (wire S.state K.state result.streams) }
 {

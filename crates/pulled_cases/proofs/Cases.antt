@@ -1,22 +1,23 @@
 -- The pulls of a case.
 use Rattle.std.proofs.Common.{◌≡◌, ℕ, Bool, false, List, [], ◌∷◌, Result, Ok, Err, refl, sym, ap, ◌∙◌, subst}
 use mathlib.Core.Path.{fun_ext}
-use Rattle.std.specs.Prelude.{IfOk, IsErr}
-use Rattle.std.specs.declared.alloc.Global.{Global}
-use Rattle.std.specs.declared.dyn_box.DynBox.{DynBox}
+use Rattle.std.specs.Prelude.{IfOk, IsErr, IsTrue, map}
+use Rattle.oci_transport.specs.Link.{AnsweredBy}
+use Rattle.oci_transport.specs.FaultsOnlyWhere.{faults_only_where}
 use Rattle.oci_names.specs.declared.reference.Reference.{Reference}
 use Rattle.oci_names.specs.Reference.{reference_of}
-use Rattle.oci_auth.specs.declared.auth.RegistryAuth.{RegistryAuth}
 use Rattle.oci_protocol.specs.Runs.{Runs}
 use Rattle.engine_terms.specs.Contexts.{within}
 use Rattle.registry_calls.specs.Clients.{Kept, Client}
 use Rattle.cosign_layers.specs.Satisfying.{CustomVerdict, policy_context}
+use Rattle.cosign_parts.specs.Judge.{vouched_in}
+use Rattle.cosign_parts.specs.Trust.{trust}
 use Rattle.cosign_parts.specs.Verifier.{valid_in}
-use Rattle.cosign_parts.specs.declared.layer.SignatureLayer.{SignatureLayer}
 use Rattle.cosign_layers.specs.declared.policy.PullPolicy.{PullPolicy}
 use Rattle.cosign_chain.specs.declared.image.VerifiedImage.{VerifiedImage}
 use Rattle.cosign_rows.specs.Snapshots.{Snapshot, snapshot}
 use Rattle.cosign_rows.specs.Sound.{Sound}
+use Rattle.cosign_rows.specs.Verified.{Whole}
 use Rattle.cosign_rows.specs.declared.refusal.PullRefusal.{PullRefusal}
 use Rattle.cosign_laws.proofs.Causes.{pull_causes}
 use Rattle.cosign_laws.proofs.Images.{Seen}
@@ -26,29 +27,18 @@ use Rattle.recorded_case.specs.Policy.{constraints_by, meaning_of, trust_of}
 use Rattle.recorded_case.proofs.Written.{no_item_same, stands_same}
 use Rattle.recorded_case.specs.declared.case.Case.{Case}
 use Rattle.pulled_cases.specs.declared.report.Report.{Report}
-use Rattle.oci_engine.specs.Clients.{default_config}
-use Rattle.oci_engine.specs.declared.config.ClientConfig.{ClientConfig}
-use Rattle.sig_registry.specs.States.{fresh_state}
-use Rattle.cosign_client.specs.Clients.{config_by, fresh}
+use Rattle.cosign_client.specs.Clients.{fresh}
 use Rattle.cosign_client.specs.State.{client_state}
-use Rattle.cosign_layers.specs.declared.constraint.Constraint.{Constraint}
-use Rattle.registry_calls.specs.declared.reference.OciReference.{OciReference}
-use Rattle.cosign_client.specs.declared.asked.Asked.{Asked}
-use Rattle.pulled_cases.specs.Opening.{client_in, Opens}
-use Rattle.pulled_cases.specs.declared.pulls.Opened.{Opened}
+use Rattle.pulled_cases.specs.Opening.{Opens}
+use Rattle.pulled_cases.specs.declared.opening.Opened.{Opened}
 use Rattle.recorded_case.specs.Registry.{answering_by}
+use Rattle.recorded_case.specs.declared.registry.Registry.{Registry}
 use Rattle.pulled_cases.proofs.CachedResponses.{case_backed}
 use Rattle.pulled_cases.proofs.PullsInTurn.{Turns, turns}
-use Rattle.pulled_cases.specs.Pulls.{PullRecord, InTurn, settings_of, row_of, SoundResult, EachSound, ReportsCase}
+use Rattle.pulled_cases.specs.Pulls.{PullRecord, InTurn, EachWhole, moment_of, joined, settings_of, row_of, SoundResult, EachSound, Pulled, ReportsCase}
 use Rattle.pulled_cases.specs.PullsAt.{row_by, row_for, Replayed}
-use Rattle.pulled_cases.specs.declared.pulls.Terms.{Terms}
 use Rattle.registry_cache.specs.Auths.{registry_auth}
 use Rattle.registry_calls.specs.Direct.{reference_in}
-use Rattle.json_values.specs.Places.{by_bytes}
-use Rattle.std.specs.FinMap.{FinMap}
-
-policy_is : {V : Type 0} {H : V → Type 0} (policy : PullPolicy V H) (case : Case) → policy.keys ≡ case.keys → policy.constraints ≡ constraints_by case.constraints → policy ≡ record { keys = case.keys; constraints = constraints_by case.constraints }
-policy_is policy case keys constraints = rw (← keys, ← constraints) refl
 
 -- the row of the policy that a case yields is the case's row
 row_same : {V : Type 0} {H : V → Type 0} (policy : PullPolicy V H) (own : CustomVerdict V H) (case : Case) (image : Reference) → policy ≡ record { keys = case.keys; constraints = constraints_by case.constraints }
@@ -71,68 +61,64 @@ each_sound : (case : Case) (image : Reference) (start end : Snapshot) (talks : L
 each_sound case image start end [] h = tt
 each_sound case image start end (talk ∷ talks) h = (result_sound case image talk talk.result h.1, each_sound case image talk.after end talks h.2)
 
--- what was replayed of a case is its report
-pub reports_case : {V : Type 0} {H : V → Type 0} (policy : PullPolicy V H) (own : DynBox V Global H → SignatureLayer → Bool) (case : Case) (image : Reference) (l : Kept) (made : Report)
-    → reference_of case.reference ≡ Ok image → policy.keys ≡ case.keys → policy.constraints ≡ constraints_by case.constraints
-    → Replayed (row_by (policy_context policy own (trust_of case)) (settings_of case) image case.auth case.accepted) case.registry case.moments (fresh case.caching) l made → ReportsCase case made
-reports_case policy own case image l made reads keys constraints played =
-    let in_turn = subst (λ row. InTurn row (answering_by case.registry) 0 (snapshot (fresh case.caching) 0) played.talks (snapshot l played.faults)) (row_same policy own case image (policy_is policy case keys constraints)) played.in_turn in
-    let turn = turns (row_of case image) (answering_by case.registry) 0 (snapshot (fresh case.caching) 0) (snapshot l played.faults) played.talks in_turn in
+-- pulls in sequence of a case, over the responses of its registry
+pub pulled : (case : Case) (image : Reference) (end : Snapshot) (talks : List PullRecord)
+    → reference_of case.reference ≡ Ok image → map moment_of talks ≡ case.moments
+    → InTurn (row_of case image) (answering_by case.registry) 0 (snapshot (fresh case.caching) 0) talks end
+    → AnsweredBy (answering_by case.registry) 0 (joined talks)
+    → IsTrue (faults_only_where (answering_by case.registry).fails 0 (joined talks) end.faults)
+    → EachWhole talks → Pulled case talks
+pulled case image end talks reads moments in_turn answered calm whole =
+    let turn = turns (row_of case image) (answering_by case.registry) 0 (snapshot (fresh case.caching) 0) end talks in_turn in
     record {
-      talks = played.talks;
-      pulled = record {
-        image = image;
-        reads = reads;
-        moments = played.moments_are;
-        end = snapshot l played.faults;
-        in_turn = in_turn;
-        answered = played.answered;
-        calm_is = played.calm_is;
-        sound = each_sound case image (snapshot (fresh case.caching) 0) (snapshot l played.faults) played.talks turn;
-        backed = case_backed case image (snapshot l played.faults) played.talks turn;
-        whole = played.whole;
-      };
-      written = played.written;
-      refused = played.refused;
+      image = image;
+      reads = reads;
+      moments = moments;
+      end = end;
+      in_turn = in_turn;
+      answered = answered;
+      calm_is = calm;
+      sound = each_sound case image (snapshot (fresh case.caching) 0) end talks turn;
+      backed = case_backed case image end talks turn;
+      whole = whole;
     }
 
--- a client with a case's settings is new
-pub fresh_as : {shown : Client} (usual : ClientConfig) (case : Case) → usual ≡ default_config → shown ≡ fresh_state (config_by usual (client_in case)) case.caching → shown ≡ record { settings = settings_of case; kept = fresh case.caching }
-fresh_as usual case as_usual is = is ∙ ap (λ u. fresh_state (config_by u (client_in case)) case.caching) as_usual
-
--- the terms of the pulls of an opened case
-abbrev pub terms_in : {V : Type 0} {H : V → Type 0} → Opened → List (Constraint V H) → Terms V H
-terms_in o constraints = record {
-  image = o.image;
-  auth = o.auth;
-  accepted = o.accepted;
-  policy = record { keys = o.keys; constraints = constraints };
-  verifier = o.verifier;
-  judge = o.judge;
+-- what was replayed of a case is its report
+pub reports_case : (case : Case) (image : Reference) (l : Kept) (made : Report) → reference_of case.reference ≡ Ok image
+    → Replayed (row_of case image) case.registry case.moments (fresh case.caching) l made → ReportsCase case made
+reports_case case image l made reads played = record {
+  talks = played.talks;
+  pulled = pulled case image (snapshot l played.faults) played.talks reads played.moments_are played.in_turn played.answered played.calm_is played.whole;
+  written = played.written;
+  refused = played.refused;
 }
 
--- the same for a new client
-pub reports_fresh : {V : Type 0} {H : V → Type 0} (own : CustomVerdict V H) (case : Case) (terms : Terms V H) (client : Client) (log_keys : FinMap by_bytes (List ℕ)) (moments : List ℕ) (l : Kept) (made : Report)
-    → client ≡ record { settings = settings_of case; kept = fresh case.caching } → log_keys ≡ case.log_keys → moments ≡ case.moments
-    → registry_auth terms.auth ≡ case.auth → terms.accepted ≡ case.accepted
-    → terms.verifier ≡ record { rows = case.signatures } → terms.judge ≡ case.vouched
-    → reference_of case.reference ≡ Ok (reference_in terms.image) → terms.policy.keys ≡ case.keys → terms.policy.constraints ≡ constraints_by case.constraints
-    → Replayed (row_for own terms client.settings log_keys) case.registry moments client.kept l made → ReportsCase case made
-reports_fresh own case terms client log_keys moments l made is logs_are moments_are auth_is accepted_are verifier_is judge_is reads keys constraints played =
-    reports_case terms.policy own case (reference_in terms.image) l made reads keys constraints
-    (rw (is, logs_are, moments_are, auth_is, accepted_are, verifier_is, judge_is) at played)
+-- the pulls of an opened case, of any image, are those of its case
+pub row_opened : {V : Type 0} {H : V → Type 0} (own : CustomVerdict V H) (case : Case) (o : Opened V H) (image : Reference) → Opens case o
+    → row_by (policy_context o.terms.policy own (trust (valid_in o.terms.verifier) (vouched_in o.terms.judge) o.client.rekor_pub_keys)) (client_state o.client).settings image (registry_auth o.terms.auth) o.terms.accepted ≡ row_of case image
+row_opened own case o image opens =
+    rw (opens.verifier, opens.judge, opens.log_keys, opens.client, opens.auth, opens.accepted) (row_same o.terms.policy own case image opens.policy)
 
--- the same for a case that was opened
-pub reports_opened : {V : Type 0} {H : V → Type 0} (own : CustomVerdict V H) (case : Case) (asked : Asked) (o : Opened) (constraints : List (Constraint V H)) (moments : List ℕ) (l : Kept) (made : Report)
-    → asked.usual ≡ default_config → Opens asked case o → moments ≡ o.moments
-    → registry_auth asked.auth ≡ case.auth → reference_of case.reference ≡ Ok (reference_in asked.image) → constraints ≡ constraints_by case.constraints
-    → Replayed (row_for own (terms_in o constraints) (client_state o.client).settings o.client.rekor_pub_keys) o.registry moments (client_state o.client).kept l made → ReportsCase case made
-reports_opened own case asked o constraints moments l made usual opens moments_are auth_is reads constraints_are played =
-    reports_fresh own case (terms_in o constraints) (client_state o.client) o.client.rekor_pub_keys moments l made
-    (fresh_as asked.usual case usual opens.client) opens.log_keys (moments_are ∙ opens.moments)
-    (ap registry_auth opens.auth ∙ auth_is) opens.accepted opens.verifier opens.judge
-    (reads ∙ ap (λ (image : OciReference). Ok (reference_in image)) (sym opens.image)) opens.keys constraints_are
-    (subst (λ registry. Replayed (row_for own (terms_in o constraints) (client_state o.client).settings o.client.rekor_pub_keys) registry moments (client_state o.client).kept l made) opens.registry played)
+-- the pulls of an opened case by its terms
+pub row_in_terms : {V : Type 0} {H : V → Type 0} (own : CustomVerdict V H) (case : Case) (o : Opened V H) → Opens case o
+    → row_for own o.terms (client_state o.client).settings o.client.rekor_pub_keys ≡ row_of case (reference_in o.terms.image)
+row_in_terms own case o opens = row_opened own case o (reference_in o.terms.image) opens
+
+-- equal rows, registries, moments and clients
+replayed_as : {row same : ℕ → Whole VerifiedImage} {registry other : Registry} {moments all : List ℕ} {k j l : Kept} {made : Report}
+    → row ≡ same → registry ≡ other → moments ≡ all → k ≡ j → Replayed row registry moments k l made → Replayed same other all j l made
+replayed_as {row} {same} {registry} {other} {moments} {all} {k} {j} {l} {made} rows registries times clients played =
+    subst (λ (r : ℕ → Whole VerifiedImage). Replayed r other all j l made) rows
+    (subst (λ (t : Registry). Replayed row t all j l made) registries
+    (subst (λ (ms : List ℕ). Replayed row registry ms j l made) times
+    (subst (λ (p : Kept). Replayed row registry moments p l made) clients played)))
+
+-- what was replayed of an opened case is its report
+pub reports_opened : {V : Type 0} {H : V → Type 0} (own : CustomVerdict V H) (case : Case) (o : Opened V H) (moments : List ℕ) (l : Kept) (made : Report) → moments ≡ o.moments → Opens case o
+    → Replayed (row_for own o.terms (client_state o.client).settings o.client.rekor_pub_keys) o.registry moments (client_state o.client).kept l made → ReportsCase case made
+reports_opened own case o moments l made moments_are opens played =
+    reports_case case (reference_in o.terms.image) l made opens.image
+    (replayed_as (row_in_terms own case o opens) opens.registry (moments_are ∙ opens.moments) (ap (λ (c : Client). c.kept) opens.client) played)
 
 pub ok_weaker : {A E : Type 0} {P Q : A → Type 0} (r : Result A E) → ((a : A) → P a → Q a) → IfOk r P → IfOk r Q
 ok_weaker (Ok a) more h = more a h

@@ -7,6 +7,7 @@ use Rattle.std.proofs.Math.Nat.{le-add_right}
 use Rattle.std.proofs.Math.Seq.{drop-append_seam, take-suc}
 use Rattle.oci_transport.specs.Link.{Link, Extends, Answering}
 use Rattle.oci_transport.specs.FaultsOnlyWhere.{faults_only_where}
+use Rattle.recorded_case.proofs.ShelfFaults.{shelf_calm}
 use Rattle.recorded_case.specs.Registry.{answering_by}
 use Rattle.recorded_case.specs.Replay.{state_of, answering_of, FaultsOnlyWhereRecorded}
 use Rattle.recorded_case.specs.declared.registry.Registry.{Registry}
@@ -29,7 +30,7 @@ use Rattle.engine_terms.specs.declared.settings.Settings.{Settings}
 use Rattle.json_values.specs.Places.{by_bytes}
 use Rattle.std.specs.FinMap.{FinMap}
 use Rattle.cosign_layers.specs.Satisfying.{CustomVerdict}
-use Rattle.pulled_cases.specs.declared.pulls.Terms.{Terms}
+use Rattle.pulled_cases.specs.declared.opening.Terms.{Terms}
 use Rattle.pulled_cases.specs.PullsAt.{row_for, PullsAt, OneMorePull, Replayed}
 
 turn_more : (row : ℕ → Whole VerifiedImage) (t : Answering) (place : ℕ) (start end last : Snapshot) (talks : List PullRecord) (talk : PullRecord) → InTurn row t place start talks end → end ≡ talk.before → talk.after ≡ last → RunsBy t (place + length (joined talks)) (row talk.moment) talk.before.kept talk.before.faults talk.conversation talk.after.faults talk.after.kept talk.result → InTurn row t place start (talks ++ talk ∷ []) last
@@ -139,6 +140,9 @@ pub row_as : {V : Type 0} {H : V → Type 0} (own : CustomVerdict V H) (terms : 
 row_as own terms {s} {t} {k} {l} e f =
     ap (λ (x : Settings). row_for own terms x k) e ∙ ap (λ (x : FinMap by_bytes (List ℕ)). row_for own terms t x) f
 
+some_is : {A : Type 0} (x y : A) → Some x ≡ Some y → x ≡ y
+some_is x y h = cc h
+
 -- a replay responds from its registry
 pub answers_by : (replay : Replay) → (state_of replay).answers ≡ Some (answering_of replay)
 answers_by (Script s) = refl
@@ -162,6 +166,11 @@ played {row} {moments} {k} {l} {made} registry first last told faults table roun
       written = rounds.written;
       refused = rounds.refused;
     }
+
+-- a replay failed only if that is recorded
+pub recorded_calm : (replay : Replay) → FaultsOnlyWhereRecorded replay
+recorded_calm (Script s) = λ told is. subst (λ (c : List Exchange). IsTrue (faults_only_where (answering_of (Script s)).fails 0 c s.faults)) (some_is s.told told is) s.faults_recorded
+recorded_calm (Shelf t) = λ told is. shelf_calm t.transport.served.shelf told (t.quiet told is)
 
 calm_none : (fails : ℕ → Bool) (n : ℕ) (c : List Exchange) → [] ≡ c → IsTrue (faults_only_where fails 0 c n)
 calm_none fails n c is = rw (← is) refl

@@ -1,3 +1,4 @@
+pub mod Once
 pub mod Opening
 pub mod Pulls
 pub mod PullsAt

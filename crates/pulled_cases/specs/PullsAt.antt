@@ -21,7 +21,7 @@ use Rattle.cosign_rows.specs.Verified.{Whole, verified}
 use Rattle.cosign_chain.specs.declared.image.VerifiedImage.{VerifiedImage}
 use Rattle.recorded_case.specs.Registry.{answering_by}
 use Rattle.recorded_case.specs.declared.registry.Registry.{Registry}
-use Rattle.pulled_cases.specs.declared.pulls.Terms.{Terms}
+use Rattle.pulled_cases.specs.declared.opening.Terms.{Terms}
 use Rattle.pulled_cases.specs.declared.report.Report.{Report}
 use Rattle.pulled_cases.specs.Pulls.{PullRecord, moment_of, joined, reports, all_answered, InTurn, EachWhole}
 

@@ -1,32 +1,29 @@
 // The pulls of a case.
-ghost use Rattle.std.specs.Prelude.{◌≡◌, ◌++◌, ◌||◌, false, not, Ok, IsErr, IfOk, OnOk};
-ghost use Rattle.oci_engine.specs.Clients.{default_config};
-ghost use Rattle.oci_names.specs.Reference.{reference_of};
-ghost use Rattle.registry_calls.specs.Direct.{reference_in};
-ghost use Rattle.registry_cache.specs.Auths.{registry_auth};
-ghost use Rattle.recorded_case.specs.Policy.{constraints_by};
+ghost use Rattle.std.specs.Prelude.{◌≡◌, ◌++◌, ◌||◌, false, not, IsErr, IfOk, OnOk};
+ghost use Rattle.oci_protocol.specs.Runs.{Meets};
+ghost use Rattle.cosign_rows.specs.Refusal.{is_memory};
 ghost use Rattle.cosign_client.specs.State.{client_state};
 ghost use Rattle.recorded_case.specs.Case.{IsReady};
+ghost use Rattle.recorded_case.specs.Policy.{constraints_by};
 ghost use Rattle.recorded_case.specs.Registry.{Leads};
 ghost use Rattle.recorded_case.specs.Replay.{FaultsOnlyWhereRecorded, state_of};
 ghost use Rattle.pull_report.specs.Report.{report as lines_of};
-ghost use Rattle.pulled_cases.specs.Opening.{Opens};
+ghost use Rattle.pulled_cases.specs.Opening.{ForCase};
 ghost use Rattle.pulled_cases.specs.Pulls.{is_answered, is_wanting, ReportsCase};
 ghost use Rattle.pulled_cases.specs.PullsAt.{row_for, OneMorePull, Replayed};
 
+use crate::opening::{Opened, Terms, open_case};
 use crate::report::Report;
-use cosign_client::{Asked, Client, PullRefusal, VerifiedImage, WrittenClient, ask_for, client_by};
-use cosign_layers::{Constraint, PullPolicy};
-use cosign_parts::{TableJudge, TableVerifier};
-use json_values::{Blob, List, Text};
+use cosign_client::{Client, PullRefusal, VerifiedImage};
+use cosign_layers::Constraint;
+use json_values::{Blob, List};
 use oci_transport::Exchange;
 use pull_report::{drop_outcome, write_report};
 use recorded_case::{Case, Registry, Replay, constraints_from};
-use sig_registry::{Auth, OciReference};
 use std::alloc::{AllocError, Global};
 
-// Whether memory ran out.
-fn is_wanting(outcome: &Result<VerifiedImage, PullRefusal>) -> bool
+/// Returns whether memory ran out.
+pub fn is_wanting(outcome: &Result<VerifiedImage, PullRefusal>) -> bool
     ensures { result ≡ is_wanting outcome.now }
 {
     match outcome {
@@ -57,15 +54,33 @@ fn add_report(
     Ok(())
 }
 
-// The arguments and the terms of each pull of a case.
-#[derive(Drop)]
-struct Terms {
-    image: OciReference,
-    auth: Auth,
-    accepted: List<Text>,
-    policy: PullPolicy,
-    verifier: TableVerifier,
-    judge: TableJudge,
+/// One pull by these terms over a replay, whose conversation it extends. Returns the image, or the error of
+/// `Client::verified_pull`.
+pub fn pull_over(
+    alloc: Global,
+    client: &mut Client,
+    replay: &mut Replay,
+    terms: &Terms,
+    moment: u64,
+) -> Result<VerifiedImage, PullRefusal>
+    ensures run { Meets is_memory (row_for (λ b. accepts (b.vtable, b.value)) terms.now
+        (client_state client.old).settings client.old.rekor_pub_keys moment)
+        (state_of replay.old) (state_of replay.new) (client_state client.old).kept (client_state client.new).kept
+        result }
+    ensures settings { (client_state client.new).settings ≡ (client_state client.old).settings }
+    ensures log_keys { client.new.rekor_pub_keys ≡ client.old.rekor_pub_keys }
+{
+    client.verified_pull(
+        alloc,
+        replay,
+        moment,
+        &terms.image,
+        &terms.auth,
+        terms.accepted.as_slice(),
+        &terms.policy,
+        &terms.verifier,
+        &terms.judge,
+    )
 }
 
 // One pull, whose report is appended.
@@ -86,17 +101,7 @@ fn pull_at(
     ensures faults_recorded { OnOk result (FaultsOnlyWhereRecorded replay.new) }
 {
     let before = replay.conversation().as_slice().len();
-    let outcome = client.verified_pull(
-        alloc,
-        replay,
-        moment,
-        &terms.image,
-        &terms.auth,
-        terms.accepted.as_slice(),
-        &terms.policy,
-        &terms.verifier,
-        &terms.judge,
-    );
+    let outcome = pull_over(alloc, client, replay, terms, moment);
     let conversation = replay.conversation().as_slice();
     let added = add_report(alloc, report, moment, &conversation[before..], &outcome);
     drop_outcome(outcome);
@@ -127,91 +132,35 @@ fn pull_each(
     Ok(report)
 }
 
-// A case with the client that was built for it, and the terms of its pulls.
-#[derive(Drop)]
-struct Opened {
-    client: Client,
-    image: OciReference,
-    auth: Auth,
-    accepted: List<Text>,
-    keys: List<Blob>,
-    verifier: TableVerifier,
-    judge: TableJudge,
-    registry: Registry,
-    moments: List<u64>,
-}
-
-fn open_case(alloc: Global, asked: Asked, case: Case) -> Opened
-    ensures { Opens asked case result }
-{
-    let Asked { image, auth, usual } = asked;
-    let written = WrittenClient {
-        protocol: case.protocol,
-        limit: case.limit,
-        platform: case.platform,
-        caching: case.caching,
-        log_keys: case.log_keys,
-    };
-    Opened {
-        client: client_by(alloc, usual, written),
-        image,
-        auth,
-        accepted: case.accepted,
-        keys: case.keys,
-        verifier: TableVerifier {
-            rows: case.signatures,
-        },
-        judge: case.vouched,
-        registry: case.registry,
-        moments: case.moments,
-    }
-}
-
-// The pulls of a case, after everything is allocated that the first request needs.
-fn make_pulls(
-    alloc: Global,
-    asked: Asked,
-    constraints: List<Constraint>,
-    case: Case,
-) -> Result<Report, AllocError>
-    requires { IsReady case }
-    ensures { asked.usual ≡ default_config → registry_auth asked.auth ≡ case.auth
-        → reference_of case.reference ≡ Ok (reference_in asked.image) → constraints ≡ constraints_by case.constraints
-        → IfOk result (ReportsCase case) }
+// The pulls of an opened case.
+fn pull_opened(alloc: Global, opened: Opened) -> Result<Report, AllocError>
+    requires { Leads opened.registry }
+    ensures { ForCase opened (λ case. IfOk result (ReportsCase case)) }
 {
     let Opened {
         mut client,
-        image,
-        auth,
-        accepted,
-        keys,
-        verifier,
-        judge,
+        terms,
         registry,
         moments,
-    } = open_case(alloc, asked, case);
-    let terms = Terms {
-        image,
-        auth,
-        accepted,
-        policy: PullPolicy { keys, constraints },
-        verifier,
-        judge,
-    };
+    } = opened;
     let report = pull_each(alloc, &mut client, registry, &terms, moments.as_slice());
     drop_both(client, terms);
     report
 }
 
-// The pulls of a case whose reference was parsed.
-fn pull_asked(alloc: Global, asked: Asked, case: Case) -> Result<Report, AllocError>
-    requires { IsReady case }
-    ensures { asked.usual ≡ default_config → registry_auth asked.auth ≡ case.auth
-        → reference_of case.reference ≡ Ok (reference_in asked.image) → IfOk result (ReportsCase case) }
+// The pulls of a case under these constraints.
+fn pull_under(
+    alloc: Global,
+    constraints: List<Constraint>,
+    case: Case,
+) -> Result<Report, AllocError>
+    requires ready { IsReady case }
+    requires constraints { constraints ≡ constraints_by case.constraints }
+    ensures { IfOk result (ReportsCase case) }
 {
-    match constraints_from(alloc, case.constraints.as_slice()) {
-        Ok(constraints) => make_pulls(alloc, asked, constraints, case),
-        Err(_) => without_memory(case),
+    match open_case(alloc, constraints, case) {
+        Ok(opened) => pull_opened(alloc, opened),
+        Err(_) => Err(AllocError),
     }
 }
 
@@ -220,8 +169,8 @@ pub fn pull_case(alloc: Global, case: Case) -> Result<Report, AllocError>
     requires { IsReady case }
     ensures { IfOk result (ReportsCase case) }
 {
-    match ask_for(alloc, case.reference.as_str(), &case.auth) {
-        Ok(asked) => pull_asked(alloc, asked, case),
+    match constraints_from(alloc, case.constraints.as_slice()) {
+        Ok(constraints) => pull_under(alloc, constraints, case),
         Err(_) => without_memory(case),
     }
 }
@@ -232,5 +181,5 @@ fn without_memory(_case: Case) -> Result<Report, AllocError>
     Err(AllocError)
 }
 
-// Drops both in a function without other facts, so that each of their many parts is dropped once.
-fn drop_both(_client: Client, _terms: Terms) {}
+/// Drops both in a function without other facts, so that each of their many parts is dropped once.
+pub fn drop_both(_client: Client, _terms: Terms) {}

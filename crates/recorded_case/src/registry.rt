@@ -25,10 +25,11 @@ pub enum Registry {
     Shelf(Shelf),
 }
 
-/// Reads exactly one of the members `answers` and `shelf`.
+/// Reads the registry of a case: exactly one of the members `answers` and `shelf`. Fails with `Shape` if none of them
+/// is there, or both, and as the member that is there fails.
 #[tactic(auto, unfolding(crate::specs::Registry::registry_of))]
 pub fn read_registry(alloc: Global, value: &Value) -> Result<Registry, ReadError>
-    ensures { ReadsTo result (registry_of (view value.now)) }
+    ensures reads { ReadsTo result (registry_of (view value.now)) }
 {
     match (value.get("answers"), value.get("shelf")) {
         (Some(answers), None) => {

@@ -2,8 +2,10 @@ use Rattle.live_pull.proofs.PartsTogether.{live_ends, prepared_in, prepares_open
 use Rattle.live_pull.proofs.live.serve.Goals as goal
 
 pub returns : goal.returns
-returns g c =
-    live_ends _ c.args.settings (prepared_in c.open_settings-client.result c.in-Ok-constraints_from.constraints) _ _ _
-    (prepares_opened c.in-Ok.asked c.args.settings c.open_settings-client.result c.in-Ok-constraints_from.constraints c.in-Ok.ensures.usual c.open_settings-client.ensures
-    (rw c.as_str.ensures at c.in-Ok.ensures.image) c.in-Ok.ensures.auth (rw c.as_slice.ensures at c.in-Ok-constraints_from.ensures))
-    (rw c.open_settings-client.ensures.blobs at c.converse-ended.ensures)
+returns g c = record {
+  status =
+      live_ends _ c.args.settings (prepared_in c.open_settings-client.result c.in-Ok-constraints_from.constraints) _ _ _
+      (prepares_opened c.in-Ok.asked c.args.settings c.open_settings-client.result c.in-Ok-constraints_from.constraints c.in-Ok.ensures.usual c.open_settings-client.ensures
+      (rw c.as_str.ensures at c.in-Ok.ensures.image) c.in-Ok.ensures.auth (rw c.as_slice.ensures at c.in-Ok-constraints_from.ensures))
+      (rw c.open_settings-client.ensures.blobs at c.converse-ended.ensures);
+}

@@ -5,4 +5,4 @@ use Rattle.recorded_case.proofs.case.CaseReads.read_value.Goals as goal
 pub returns-in_err-reference : goal.returns-in_err-reference
 unfolding case_of
 returns-in_err-reference c =
-    passed_on _ _ _ (behind _ _ c.in_ok-only.ensures (behind _ _ c.in_ok-registry.ensures (c.in_err-reference.ensures.refused _))) c.from_residual-in_err-reference.ensures
+    passed_on _ _ _ (behind _ _ c.in_ok-only.ensures (behind _ _ c.in_ok-registry.ensures.reads (c.in_err-reference.ensures.refused _))) c.from_residual-in_err-reference.ensures

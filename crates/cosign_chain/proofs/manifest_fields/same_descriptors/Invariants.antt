@@ -1,7 +1,7 @@
 use Rattle.std.proofs.Common.{◌≡◌, drop}
 use Rattle.std.specs.Cmp.Lexicographic.{pointwise}
 use Rattle.cosign_chain.specs.SameManifest.{same_descriptor}
-use Rattle.cosign_chain.proofs.same_manifest.same_descriptors.Given as goal
+use Rattle.cosign_chain.proofs.manifest_fields.same_descriptors.Given as goal
 
 abbrev pub invariant-loop-descriptor : goal.invariant-loop-descriptor
 invariant-loop-descriptor l =

@@ -8,7 +8,8 @@ use json_values::{List, Text};
 use oci_descriptors::OciDescriptor;
 use oci_manifests::OciImageManifest;
 
-pub(crate) fn same_manifest(a: &OciImageManifest, b: &OciImageManifest) -> bool
+/// Returns whether two manifests are the same, compared field by field.
+pub fn same_manifest(a: &OciImageManifest, b: &OciImageManifest) -> bool
     ensures { result ≡ same_manifest a.now b.now }
 {
     a.schema_version == b.schema_version
