@@ -13,7 +13,7 @@ use Rattle.engine_terms.specs.Contexts.{Context, within}
 use Rattle.engine_terms.specs.declared.settings.Settings.{Settings}
 use Rattle.engine_rows.specs.Confined.{Within}
 use Rattle.engine_rows.specs.Held.{asking}
-use Rattle.engine_publish.specs.declared.images.PushResponse.{PushResponse}
+use Rattle.push_rows.specs.declared.responses.PushResponse.{PushResponse}
 use Rattle.registry_calls.specs.Calls.{push_call}
 use Rattle.registry_calls.specs.Clients.{Kept}
 use Rattle.registry_calls.specs.Error.{is_memory}

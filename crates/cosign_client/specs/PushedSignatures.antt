@@ -5,7 +5,7 @@ use Rattle.oci_names.specs.declared.reference.Reference.{Reference}
 use Rattle.oci_auth.specs.declared.auth.RegistryAuth.{RegistryAuth}
 use Rattle.oci_protocol.specs.Runs.{Meets}
 use Rattle.engine_terms.specs.Contexts.{Context}
-use Rattle.engine_publish.specs.declared.images.PushResponse.{PushResponse}
+use Rattle.push_rows.specs.declared.responses.PushResponse.{PushResponse}
 use Rattle.registry_calls.specs.Calls.{push_call}
 use Rattle.registry_calls.specs.Clients.{Kept}
 use Rattle.registry_calls.specs.Error.{is_memory}

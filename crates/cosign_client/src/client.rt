@@ -32,9 +32,9 @@ use cosign_parts::{LogKeys, Offline, SignatureLayer, SignatureVerifier, Trusted}
 use cosign_pull::pull_verified;
 use cosign_rows::{Asked, PullRefusal, Terms, TrustedLayers, oci_tag_reference};
 use cosign_search::search;
-use engine_publish::PushResponse;
 use json_values::{Annotations, Text};
 use oci_transport::Transport;
+use push_rows::PushResponse;
 use sig_registry::{Auth, ClientCapabilities, OciReference, RegistryClient, SigstoreError};
 use std::alloc::Global;
 

@@ -13,7 +13,7 @@ pub use builder::ClientBuilder;
 pub use client::Client;
 pub use cosign_chain::{VerifiedImage, check_chain, check_links};
 pub use cosign_rows::{PullRefusal, SkipCause, Skipped, SourceKind, TrustedLayers};
-pub use engine_publish::PushResponse;
+pub use push_rows::PushResponse;
 pub use signature::{SignatureImage, pushed_signatures_are_found, signature_image};
 pub use trust_root::TrustRoot;
 pub use written_client::{WrittenClient, client_by};

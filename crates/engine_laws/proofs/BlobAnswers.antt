@@ -39,9 +39,9 @@ use Rattle.engine_rows.specs.Blobs.{Destination, IntoSink, IntoMemory, reading_i
 use Rattle.engine_rows.specs.Offers.{tried}
 use Rattle.engine_rows.specs.Pulls.{blob_to}
 use Rattle.engine_rows.specs.Answered.{LedTo, Body, LastBody}
-use Rattle.engine_laws.proofs.PreparedRequests.{into_ok, Prepared, prepared_shows}
-use Rattle.engine_laws.proofs.DocumentAnswers.{led_of, body_after, body_led}
-use Rattle.engine_laws.proofs.OfferedPlaces.{EachPlace, Unasked, Gives, tried_law}
+use Rattle.request_laws.proofs.PreparedRequests.{into_ok, Prepared, prepared_shows}
+use Rattle.request_laws.proofs.DocumentAnswers.{led_of, body_after, body_led}
+use Rattle.request_laws.proofs.OfferedPlaces.{EachPlace, Unasked, Gives, tried_law}
 
 -- ---- the expected digest is the requested one
 

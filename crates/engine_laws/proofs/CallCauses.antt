@@ -30,17 +30,17 @@ use Rattle.engine_rows.specs.TokenCauses.{LastIs}
 use Rattle.engine_rows.specs.Held.{Entry, pulling}
 use Rattle.engine_rows.specs.Blobs.{Destination, IntoSink}
 use Rattle.engine_rows.specs.Causes.{Act, ManifestUrl, BlobUrl, AnswerCause, DocumentCause, BadHeader, Cause, OwnDigest, BlobCause, FoundCause, ConfigCause, ImageCause}
-use Rattle.engine_laws.proofs.EarlyCauses.{Loose, LooseBlob}
-use Rattle.engine_laws.proofs.DocumentCauses.{Accepted, raw_causes}
+use Rattle.request_laws.proofs.EarlyCauses.{Loose, LooseBlob}
+use Rattle.request_laws.proofs.DocumentCauses.{Accepted, raw_causes}
 use Rattle.engine_laws.proofs.DigestCauses.{digest_causes}
-use Rattle.engine_laws.proofs.BlobCauses.{blob_causes}
+use Rattle.request_laws.proofs.BlobCauses.{blob_causes}
 use Rattle.engine_laws.proofs.ManifestCauses.{ReadLast, manifest_causes}
 use Rattle.engine_laws.proofs.FoundCauses.{FoundLoose, found_any, one_causes}
 use Rattle.engine_laws.proofs.ImageCauses.{RowCause, ConfigRow, image_causes, config_causes, text_causes}
-use Rattle.engine_laws.proofs.FaultCounts.{failed_last, fault_last, refusal_both}
-use Rattle.engine_laws.proofs.KeptTokens.{Keeps, keeps_first}
-use Rattle.engine_laws.proofs.ShownTokens.{Carries, HeaderCause, Ended}
-use Rattle.engine_laws.proofs.HeaderCauses.{digest_sound, raw_sound, manifest_sound, found_sound, one_sound, config_sound, text_sound, image_sound, blob_sound}
+use Rattle.request_laws.proofs.FaultCounts.{failed_last, fault_last, refusal_both}
+use Rattle.request_laws.proofs.KeptTokens.{Keeps, keeps_first}
+use Rattle.request_laws.proofs.ShownTokens.{Carries, HeaderCause, Ended}
+use Rattle.request_laws.proofs.HeaderCauses.{digest_sound, raw_sound, manifest_sound, found_sound, one_sound, config_sound, text_sound, image_sound, blob_sound}
 
 -- a cause, with the values that are not valid header values
 pub tight : (T : Act → Type 0) (Of : List ℕ → Answer → OciDistributionError → Type 0) (x : Entry) (s : Settings) (types : List ℕ) (now : ℕ) (c : List Exchange) (e : OciDistributionError) → Loose T Of s types c now e → HeaderCause x s types c e → Cause T Of (BadHeader x s types) s c now e

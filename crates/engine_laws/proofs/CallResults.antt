@@ -17,7 +17,7 @@ use Rattle.engine_terms.specs.Error.{is_memory}
 use Rattle.engine_rows.specs.Blobs.{Destination, IntoSink, MeetsIntoSink}
 use Rattle.engine_rows.specs.Pulls.{fetch_manifest_digest, pull_manifest_raw, blob_to, pull_blob}
 use Rattle.engine_rows.specs.Answered.{DigestAnswered, Body, LastBody, Document, TookBlob}
-use Rattle.engine_laws.proofs.DocumentAnswers.{raw_shows}
+use Rattle.request_laws.proofs.DocumentAnswers.{raw_shows}
 use Rattle.engine_laws.proofs.DigestAnswers.{digest_shows}
 use Rattle.engine_laws.proofs.BlobAnswers.{Blob, blob_shows}
 

@@ -31,11 +31,11 @@ use Rattle.engine_requests.specs.Tokens.{allowed, realm_url, with_service}
 use Rattle.engine_terms.specs.declared.settings.Settings.{Settings}
 use Rattle.engine_rows.specs.Confined.{ToRegistry, ToRealm, MayCarry, Confined, KeptOrAdded, StoredOrHanded, Within}
 use Rattle.engine_rows.specs.Held.{Entry, pulling, IsAuth, IsHeld}
-use Rattle.engine_laws.proofs.RequestConfinement.{each_more}
-use Rattle.engine_laws.proofs.KeptTokens.{Keeps, keeps_first, keeps_more}
-use Rattle.engine_laws.proofs.SafeKeeps.{Lasts, Meets-within}
-use Rattle.engine_laws.proofs.SafeMore.{Safe-map}
-use Rattle.engine_laws.proofs.ShownTokens.{Carries}
+use Rattle.request_laws.proofs.RequestConfinement.{each_more}
+use Rattle.request_laws.proofs.KeptTokens.{Keeps, keeps_first, keeps_more}
+use Rattle.request_laws.proofs.SafeKeeps.{Lasts, Meets-within}
+use Rattle.request_laws.proofs.SafeMore.{Safe-map}
+use Rattle.request_laws.proofs.ShownTokens.{Carries}
 
 -- ---- the client state keeps its invariant to the end
 

@@ -34,8 +34,8 @@ use Rattle.engine_rows.specs.declared.named.NamedAnswer.TheVariants as named
 use Rattle.engine_rows.specs.Rows.{store, reading_named, named_reading, unread_named, read_named, named_reply, named_after, prepared}
 use Rattle.engine_rows.specs.Pulls.{document, digest_by, fetch_manifest_digest}
 use Rattle.engine_rows.specs.Answered.{LedTo, FirstAsked, ByHeader, ByDocument, DigestAnswered as Digest}
-use Rattle.engine_laws.proofs.PreparedRequests.{asks_of, Silent, silent_store, Prepared, prepared_shows}
-use Rattle.engine_laws.proofs.DocumentAnswers.{led_of, first_asked, accepted_is, digest_ok, names_of, Found, document_shows, url_is}
+use Rattle.request_laws.proofs.PreparedRequests.{asks_of, Silent, silent_store, Prepared, prepared_shows}
+use Rattle.request_laws.proofs.DocumentAnswers.{led_of, first_asked, accepted_is, digest_ok, names_of, Found, document_shows, url_is}
 
 -- ---- the response whose header names a digest, or none
 

@@ -29,10 +29,10 @@ use Rattle.engine_rows.specs.declared.named.NamedAnswer.TheVariants as named
 use Rattle.engine_rows.specs.Rows.{store, reading_named, named_reading, unread_named, read_named, named_reply, named_after, prepared}
 use Rattle.engine_rows.specs.Pulls.{document, digest_by, fetch_manifest_digest}
 use Rattle.engine_rows.specs.Causes.{Sends, ManifestUrl, LastAnswer, AnswerCause, OwnDigest}
-use Rattle.engine_laws.proofs.PreparedRequests.{Prepared}
-use Rattle.engine_laws.proofs.DigestErrors.{digest_err, agreed_cause}
-use Rattle.engine_laws.proofs.EarlyCauses.{prepared_causes, store_causes}
-use Rattle.engine_laws.proofs.DocumentCauses.{answer_cause, cause_later, header_refused, not_accepted, heard_answer, heard_failed, heard_long, Accepted, OwnCause, manifest_own, document_causes, early_shown, url_cause}
+use Rattle.request_laws.proofs.PreparedRequests.{Prepared}
+use Rattle.request_laws.proofs.DigestErrors.{digest_err, agreed_cause}
+use Rattle.request_laws.proofs.EarlyCauses.{prepared_causes, store_causes}
+use Rattle.request_laws.proofs.DocumentCauses.{answer_cause, cause_later, header_refused, not_accepted, heard_answer, heard_failed, heard_long, Accepted, OwnCause, manifest_own, document_causes, early_shown, url_cause}
 
 -- the last response, if its header names a digest
 abbrev NamedLast : Settings → Reference → ℕ → List Exchange → ℕ → NamedAnswer → Type 0

@@ -24,9 +24,9 @@ use Rattle.engine_requests.specs.Requests.{manifest_types}
 use Rattle.engine_rows.specs.Manifests.{pull_entry, manifest_by, pull_image_manifest_and_list_digest, pull_image_manifest}
 use Rattle.engine_rows.specs.Pulls.{pull_manifest}
 use Rattle.engine_rows.specs.Causes.{Act, ManifestUrl, DocumentCause, OwnDigest, IndexRead, LastIsIndex, IsMissing, NotFound, IndexCause, EntryDigest, FoundDigest, FoundUrl, FoundCause, ManifestRead}
-use Rattle.engine_laws.proofs.EarlyCauses.{AnyValue, Loose}
-use Rattle.engine_laws.proofs.DocumentAnswers.{body_before}
-use Rattle.engine_laws.proofs.DocumentCauses.{cause_later, last_later}
+use Rattle.request_laws.proofs.EarlyCauses.{AnyValue, Loose}
+use Rattle.request_laws.proofs.DocumentAnswers.{body_before}
+use Rattle.request_laws.proofs.DocumentCauses.{cause_later, last_later}
 use Rattle.engine_laws.proofs.ManifestCauses.{document_more, ReadLast, ManifestCause, manifest_causes}
 
 -- ---- what was parsed

@@ -28,10 +28,10 @@ use Rattle.engine_rows.specs.Image.{is_accepted, all_accepted, layers_accepted, 
 use Rattle.engine_rows.specs.declared.image.ImageData.{ImageData}
 use Rattle.engine_rows.specs.Answered.{LastBody}
 use Rattle.engine_rows.specs.Causes.{BlobUrl, ImageUrl, FoundUrl, FoundDigest, AnswerCause, DocumentCause, AskedDigest, ManifestRead, ReadDescriptor, ImageDigest, IndexCause, ConfigCause, ImageCause}
-use Rattle.engine_laws.proofs.EarlyCauses.{AnyValue, Loose, LooseBlob}
-use Rattle.engine_laws.proofs.DocumentCauses.{cause_later}
+use Rattle.request_laws.proofs.EarlyCauses.{AnyValue, Loose, LooseBlob}
+use Rattle.request_laws.proofs.DocumentCauses.{cause_later}
 use Rattle.engine_laws.proofs.BlobAnswers.{Blob, blob_shows}
-use Rattle.engine_laws.proofs.BlobCauses.{blob_later, blob_causes}
+use Rattle.request_laws.proofs.BlobCauses.{blob_later, blob_causes}
 use Rattle.engine_laws.proofs.ManifestCauses.{answer_document, document_more}
 use Rattle.engine_laws.proofs.FoundCauses.{read_before, no_resolver_more, no_entry_more, FoundLoose, FoundRefused, found_causes}
 

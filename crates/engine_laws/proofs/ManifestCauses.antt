@@ -26,8 +26,8 @@ use Rattle.engine_requests.specs.Requests.{manifest_types}
 use Rattle.engine_answers.specs.Documents.{plain_of, type_checked, version_checked, versioned_in, or_unread, reads_twice, tables_read, document_read}
 use Rattle.engine_rows.specs.Pulls.{pull_manifest_raw, pull_manifest}
 use Rattle.engine_rows.specs.Causes.{Act, ManifestUrl, Claimed, DigestCause, AnswerCause, IsNoDocument, DocumentCause, ByLast, OwnDigest}
-use Rattle.engine_laws.proofs.EarlyCauses.{Loose}
-use Rattle.engine_laws.proofs.DocumentCauses.{cause_later, last_later, Accepted, OwnCause, raw_causes}
+use Rattle.request_laws.proofs.EarlyCauses.{Loose}
+use Rattle.request_laws.proofs.DocumentCauses.{cause_later, last_later, Accepted, OwnCause, raw_causes}
 
 -- ---- which refusals are about a document
 

@@ -23,11 +23,11 @@ use Rattle.engine_rows.specs.Pulls.{document, manifest_document, manifest_asked}
 use Rattle.engine_rows.specs.Referrers.{referrers_asked}
 use Rattle.engine_rows.specs.Causes.{Sends, AsksAt, ManifestUrl, LastAnswer, AnswerCause, OwnDigest}
 use Rattle.engine_rows.specs.ReferrersCauses.{ListUrl, ListAnswer}
-use Rattle.engine_laws.proofs.DocumentCauses.{asks_at, Accepted, OwnCause, answer_later, cause_later, last_later, into_err, url_cause, early_shown, whole_causes, document_causes}
-use Rattle.engine_laws.proofs.EarlyCauses.{Loose, prepared_causes}
+use Rattle.request_laws.proofs.DocumentCauses.{asks_at, Accepted, OwnCause, answer_later, cause_later, last_later, into_err, url_cause, early_shown, whole_causes, document_causes}
+use Rattle.request_laws.proofs.EarlyCauses.{Loose, prepared_causes}
 use Rattle.engine_laws.proofs.ManifestCauses.{ReadLast, ManifestCause, raw_where, document_refused}
-use Rattle.engine_laws.proofs.PreparedRequests.{into_ok, Prepared}
-use Rattle.engine_laws.proofs.DocumentAnswers.{url_is}
+use Rattle.request_laws.proofs.PreparedRequests.{into_ok, Prepared}
+use Rattle.request_laws.proofs.DocumentAnswers.{url_is}
 
 -- ---- the list
 

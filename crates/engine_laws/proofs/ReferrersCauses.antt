@@ -40,16 +40,16 @@ use Rattle.engine_rows.specs.TokenCauses.{LastIs}
 use Rattle.engine_rows.specs.Held.{Entry, pulling}
 use Rattle.engine_rows.specs.ReferrersCauses.{AfterMissing, ListUrl, IsNoIndex, ListAnswer, TagAnswer, ListCause, TagCause, ReferrersCause}
 use Rattle.engine_laws.proofs.CallCauses.{tight}
-use Rattle.engine_laws.proofs.DocumentAnswers.{accepted_is}
-use Rattle.engine_laws.proofs.DocumentCauses.{into_err, not_accepted, status_is, status_other}
-use Rattle.engine_laws.proofs.EarlyCauses.{Loose}
-use Rattle.engine_laws.proofs.ExactRefusals.{Only, after_refusal}
-use Rattle.engine_laws.proofs.FaultCounts.{failed_last, last_after, fault_last}
-use Rattle.engine_laws.proofs.KeptTokens.{Keeps, keeps_first}
+use Rattle.request_laws.proofs.DocumentAnswers.{accepted_is}
+use Rattle.request_laws.proofs.DocumentCauses.{into_err, not_accepted, status_is, status_other}
+use Rattle.request_laws.proofs.EarlyCauses.{Loose}
+use Rattle.request_laws.proofs.ExactRefusals.{Only, after_refusal}
+use Rattle.request_laws.proofs.FaultCounts.{failed_last, last_after, fault_last}
+use Rattle.request_laws.proofs.KeptTokens.{Keeps, keeps_first}
 use Rattle.engine_laws.proofs.ManifestCauses.{ReadLast}
 use Rattle.engine_laws.proofs.ReferrersAnswers.{asked_causes, manifest_shown}
 use Rattle.engine_laws.proofs.ReferrersConfinement.{asked_sound, document_asked_sound, asked_within}
-use Rattle.engine_laws.proofs.ShownTokens.{Carries, HeaderCause, Ended}
+use Rattle.request_laws.proofs.ShownTokens.{Carries, HeaderCause, Ended}
 
 -- ---- which refusals a response of the list results in
 

@@ -30,16 +30,16 @@ use Rattle.engine_rows.specs.Referrers.{referrers_asked, referrers_tagged, refer
 use Rattle.engine_rows.specs.Confined.{Confined, AllConfined, Within}
 use Rattle.engine_rows.specs.Held.{Entry, pulling}
 use Rattle.engine_rows.specs.ReferrersCauses.{for_tag, ListUrl, WithinReferrers}
-use Rattle.engine_laws.proofs.CallConfinement.{Any, given_safe}
-use Rattle.engine_laws.proofs.DocumentCauses.{answer_later, status_is}
-use Rattle.engine_laws.proofs.HeaderCauses.{Sound, whole_sound, document_sound}
-use Rattle.engine_laws.proofs.KeptTokens.{Keeps, keeps_first, keeps_more}
-use Rattle.engine_laws.proofs.PlainRefusals.{read_document_plain}
+use Rattle.request_laws.proofs.CallConfinement.{Any, given_safe}
+use Rattle.request_laws.proofs.DocumentCauses.{answer_later, status_is}
+use Rattle.request_laws.proofs.HeaderCauses.{Sound, whole_sound, document_sound}
+use Rattle.request_laws.proofs.KeptTokens.{Keeps, keeps_first, keeps_more}
+use Rattle.request_laws.proofs.PlainRefusals.{read_document_plain}
 use Rattle.engine_laws.proofs.ReferrersAnswers.{asked_causes}
 use Rattle.engine_laws.proofs.ReferrersPlain.{url_plain, tagged_ended}
 use Rattle.engine_laws.proofs.RunParts.{Behind, Parted, behind_parts, behind_done, behind_each, behind_keeps, met_behind, each_more}
-use Rattle.engine_laws.proofs.SafeKeeps.{Safe-keeps}
-use Rattle.engine_laws.proofs.ShownTokens.{Carries, Ended, safe_done, safe_next, safe_ready, prepared_safe, plain_step, plain_last, url_first}
+use Rattle.request_laws.proofs.SafeKeeps.{Safe-keeps}
+use Rattle.request_laws.proofs.ShownTokens.{Carries, Ended, safe_done, safe_next, safe_ready, prepared_safe, plain_step, plain_last, url_first}
 
 -- ---- the walk
 

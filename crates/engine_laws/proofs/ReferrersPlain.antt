@@ -19,9 +19,9 @@ use Rattle.engine_answers.specs.Documents.{plain_of, tables_read}
 use Rattle.engine_answers.specs.Referrers.{index_in, index_read, referrers_in, no_referrers, is_absent, tag_index, tagged_index}
 use Rattle.engine_requests.specs.ReferrerLists.{digest_given, referrers_text, referrers_url, with_artifact_type}
 use Rattle.engine_rows.specs.Held.{Entry}
-use Rattle.engine_laws.proofs.KeptTokens.{Keeps}
-use Rattle.engine_laws.proofs.PlainRefusals.{Plain, into_plain, accepted_plain, tables_plain}
-use Rattle.engine_laws.proofs.ShownTokens.{Ended, ended_plain}
+use Rattle.request_laws.proofs.KeptTokens.{Keeps}
+use Rattle.request_laws.proofs.PlainRefusals.{Plain, into_plain, accepted_plain, tables_plain}
+use Rattle.request_laws.proofs.ShownTokens.{Ended, ended_plain}
 
 read_plain : (text : List ℕ) → Plain (url_read text)
 read_plain text = by_url (request_url text) where

@@ -18,7 +18,7 @@ use Rattle.engine_terms.specs.declared.error.OciDistributionError.TheVariants as
 use Rattle.engine_rows.specs.Rows.{Row, whole, prepared}
 use Rattle.engine_rows.specs.Referrers.{referrers_asked, referrers_by, pull_referrers}
 use Rattle.engine_rows.specs.Causes.{IsEarly, HasBadHeader}
-use Rattle.engine_laws.proofs.ExactRefusals.{Only, after_refusal, handed_on, early_on, prepared_bad}
+use Rattle.request_laws.proofs.ExactRefusals.{Only, after_refusal, handed_on, early_on, prepared_bad}
 
 -- the digest is present
 with_digest : {B : Type 0} (Q : Result B OciDistributionError → Type 0) (f : List ℕ → Row B) (digest : List ℕ) (o : Option (List ℕ)) → o ≡ Some digest → Ends Q (f digest) → Ends Q (Done (digest_given o) >>= f)

@@ -22,13 +22,13 @@ use Rattle.engine_rows.specs.Rows.{Row}
 use Rattle.engine_rows.specs.Referrers.{referrers_asked, referrers_tagged, referrers_by, pull_referrers}
 use Rattle.engine_rows.specs.Confined.{ToRegistry, ToRealm, MayCarry}
 use Rattle.engine_rows.specs.Held.{pulling}
-use Rattle.engine_laws.proofs.RequestConfinement.{each_more}
-use Rattle.engine_laws.proofs.HeaderCauses.{Sound}
-use Rattle.engine_laws.proofs.KeptTokens.{Keeps}
+use Rattle.request_laws.proofs.RequestConfinement.{each_more}
+use Rattle.request_laws.proofs.HeaderCauses.{Sound}
+use Rattle.request_laws.proofs.KeptTokens.{Keeps}
 use Rattle.engine_laws.proofs.ReferrersConfinement.{asked_sound, tagged_sound}
 use Rattle.engine_laws.proofs.ReferrersPlain.{digest_plain, list_plain}
-use Rattle.engine_laws.proofs.SafeMore.{Safe-map}
-use Rattle.engine_laws.proofs.ShownTokens.{Carries, HeaderCause, Ended, safe_next, plain_step, plain_last}
+use Rattle.request_laws.proofs.SafeMore.{Safe-map}
+use Rattle.request_laws.proofs.ShownTokens.{Carries, HeaderCause, Ended, safe_next, plain_step, plain_last}
 
 -- ---- a reference is requested by its registry and its repository
 

@@ -9,7 +9,7 @@ use Rattle.oci_protocol.specs.Runs.{Runs, RunPrefix, Performs, PerformsPrefix, O
 use Rattle.oci_protocol.specs.Safe.{Safe, EachAfter}
 use Rattle.oci_protocol.proofs.Parts.{Runs-parts}
 use Rattle.oci_protocol.proofs.Safety.{Runs-safe, RunPrefix-safe}
-use Rattle.engine_laws.proofs.SafeKeeps.{Lasts, Runs-keeps, RunPrefix-keeps}
+use Rattle.request_laws.proofs.SafeKeeps.{Lasts, Runs-keeps, RunPrefix-keeps}
 
 -- a prefix of a run, or a whole one
 abbrev pub Behind : {K A : Type 0} → Proto K A → K → ℕ → List Exchange → K → Type 0

@@ -43,10 +43,10 @@ use Rattle.engine_requests.specs.Requests.{with_header, with_accept, with_token,
 use Rattle.engine_requests.specs.Tokens.{wanted, realm_url, realm_request, decoded, token_read}
 use Rattle.engine_rows.specs.Rows.{Row, recalled, keep, store, with_kept, shown_text, whole_reply, whole, head_reply, head_after, realm_asked, fetched, registry_asked, unasked_or_asked, token_step, kept_text, token_given}
 use Rattle.engine_rows.specs.TokenCauses.{LastIs, WithAnswer, LastRealm, TokenUrl, TokenCause}
-use Rattle.engine_laws.proofs.PreparedRequests.{with_ok}
-use Rattle.engine_laws.proofs.DocumentCauses.{status_is, status_other}
-use Rattle.engine_laws.proofs.FaultCounts.{last_after, refusal_told, fault_last}
-use Rattle.engine_laws.proofs.ShownTokens.{none_held, one_held, refused_value, into_err, unread_never}
+use Rattle.request_laws.proofs.PreparedRequests.{with_ok}
+use Rattle.request_laws.proofs.DocumentCauses.{status_is, status_other}
+use Rattle.request_laws.proofs.FaultCounts.{last_after, refusal_told, fault_last}
+use Rattle.request_laws.proofs.ShownTokens.{none_held, one_held, refused_value, into_err, unread_never}
 
 -- ---- causes of later exchanges
 

@@ -18,8 +18,8 @@ use Rattle.engine_terms.specs.declared.error.OciDistributionError.{OciDistributi
 use Rattle.engine_terms.specs.declared.error.OciDistributionError.TheVariants as refusal
 use Rattle.engine_rows.specs.Rows.{Row}
 use Rattle.engine_rows.proofs.Exits.{caught, caught_refusal, caught_memory, done}
-use Rattle.engine_push.specs.Calls.{push_blob}
-use Rattle.engine_publish.specs.Calls.{before_end, named_for, or_named, layers_pushed}
+use Rattle.push_rows.specs.Calls.{push_blob}
+use Rattle.push_rows.specs.Images.{before_end, named_for, or_named, layers_pushed}
 
 -- ---- the end of a text
 

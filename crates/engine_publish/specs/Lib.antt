@@ -1,4 +1,1 @@
-pub mod Calls
-pub mod Causes
 pub mod Plans
-pub mod Sent

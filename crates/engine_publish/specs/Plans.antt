@@ -7,7 +7,7 @@ use Rattle.oci_manifests.specs.declared.document.OciManifest.{OciManifest}
 use Rattle.oci_manifests.specs.declared.document.OciManifest.TheVariants.{Image}
 use Rattle.oci_manifests.specs.declared.manifest.OciImageManifest.{OciImageManifest}
 use Rattle.std.specs.Prelude.{List}
-use Rattle.engine_publish.specs.Calls.{digests_for}
+use Rattle.push_rows.specs.Images.{digests_for}
 use Rattle.engine_publish.specs.declared.images.Plan.{Plan}
 use Rattle.engine_publish.specs.declared.written.Written.{Written}
 

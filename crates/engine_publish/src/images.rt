@@ -3,8 +3,8 @@ ghost use Rattle.std.specs.Prelude.{◌≡◌, IfOk, map};
 ghost use Rattle.oci_protocol.specs.Runs.{Meets};
 ghost use Rattle.engine_terms.specs.Contexts.{context_of};
 ghost use Rattle.engine_terms.specs.Error.{is_memory};
-ghost use Rattle.engine_publish.specs.Calls.{digest_of_layer, digest_of_entry, manifest_for, digests_for};
-ghost use Rattle.engine_publish.specs.Calls.{layers_pushed, image_pushed, push};
+ghost use Rattle.push_rows.specs.Images.{digest_of_layer, digest_of_entry, manifest_for, digests_for};
+ghost use Rattle.push_rows.specs.Images.{layers_pushed, image_pushed, push};
 ghost use Rattle.engine_publish.specs.Plans.{IsPlan};
 ghost use Rattle.oci_manifests.specs.declared.manifest.OciImageManifest.{OciImageManifest};
 
@@ -12,32 +12,13 @@ use crate::manifests::push_written;
 use crate::written::{Written, write_image};
 use engine_push::push_blob;
 use engine_terms::{Call, OciDistributionError};
-use json_values::{Copied, List, Text, copied};
+use json_values::{Copied, List, Text};
 use oci_auth::{AuthState, RegistryAuth, store};
 use oci_docs::blob::Config;
 use oci_docs::{ImageLayer, OciDescriptor, OciImageManifest};
 use oci_transport::Transport;
+use push_rows::PushResponse;
 use std::alloc::{AllocError, Global};
-
-/// The URLs of a pushed image: of its configuration and of its manifest.
-#[derive(Debug, Drop, PartialEq, Eq)]
-pub struct PushResponse {
-    pub config_url: Text,
-    pub manifest_url: Text,
-}
-
-impl Copied for PushResponse {
-    fn copy(&self, alloc: Global) -> Result<PushResponse, AllocError> {
-        copied!(
-            alloc,
-            self,
-            PushResponse {
-                config_url,
-                manifest_url
-            }
-        )
-    }
-}
 
 /// An image to push: its layers, its configuration, and its manifest unless that is to be built from them.
 #[derive(Drop)]

@@ -5,5 +5,6 @@ mod images;
 mod manifests;
 mod written;
 
-pub use images::{PushResponse, PushedImage, push};
+pub use images::{PushedImage, push};
 pub use manifests::{push_manifest, push_manifest_list, push_manifest_raw};
+pub use push_rows::PushResponse;

@@ -7,8 +7,8 @@ ghost use Rattle.oci_protocol.specs.Runs.{Meets};
 ghost use Rattle.engine_terms.specs.Contexts.{context_of};
 ghost use Rattle.engine_terms.specs.Error.{is_memory};
 ghost use Rattle.engine_requests.specs.Addresses.{manifest_name};
-ghost use Rattle.engine_publish.specs.Calls.{before_end, named_url, is_unlocated, named_for};
-ghost use Rattle.engine_publish.specs.Calls.{push_manifest_raw, push_manifest, push_manifest_list};
+ghost use Rattle.push_rows.specs.Images.{before_end, named_url, is_unlocated, named_for};
+ghost use Rattle.push_rows.specs.Images.{push_manifest_raw, push_manifest, push_manifest_list};
 
 use crate::written::{Written, write_document, write_index};
 use engine_push::{Content, sent};

@@ -15,7 +15,7 @@ use Rattle.engine_rows.specs.Rows.{Row}
 use Rattle.engine_terms.specs.Contexts.{Context}
 use Rattle.engine_terms.specs.declared.error.GenericCause.TheVariants.{SizeDiffers}
 use Rattle.engine_rows.proofs.Exits.{said, done, caught, caught_refusal, caught_memory}
-use Rattle.engine_push.specs.Calls.{not_empty, push_chunked, push_whole, is_violation, or_whole, push_blob, of_size, stream_whole, stream_chunked, push_blob_stream}
+use Rattle.push_rows.specs.Calls.{not_empty, push_chunked, push_whole, is_violation, or_whole, push_blob, of_size, stream_whole, stream_chunked, push_blob_stream}
 
 empty_refused : (bytes : List ℕ) → length bytes ≡ 0 → not_empty bytes ≡ Err refusal.PushNoDataError
 empty_refused [] none = refl

@@ -14,9 +14,9 @@ use Rattle.engine_terms.specs.declared.error.OciDistributionError.{OciDistributi
 use Rattle.engine_terms.specs.declared.error.OciDistributionError.TheVariants as refusal
 use Rattle.engine_rows.specs.Rows.{Row}
 use Rattle.engine_rows.proofs.Exits.{refused, wanting, and_then, done}
-use Rattle.engine_push.specs.Uploads.{chunk_size, first_chunks, chunks, chunk_sent, chunks_sent}
-use Rattle.engine_push.specs.PieceStates.{part}
-use Rattle.engine_push.proofs.Carried.{Carries, CarriesFront, carries_none, carries_more, carries_front, front_behind_more, front_of_more, dropped_fewer}
+use Rattle.push_rows.specs.Uploads.{chunk_size, first_chunks, chunks, chunk_sent, chunks_sent}
+use Rattle.push_rows.specs.PieceStates.{part}
+use Rattle.push_rows.proofs.Carried.{Carries, CarriesFront, carries_none, carries_more, carries_front, front_behind_more, front_of_more, dropped_fewer}
 
 pub record LeadsTo {A : Type 0} (p q : Row A) (old mid : Link) (k j : AuthState) : Type 0 where
   pub met : (new : Link) (l : AuthState) (r : Result A OciDistributionError) → Meets is_memory q mid new j l r → Meets is_memory p old new k l r

@@ -1,9 +1,7 @@
 pub mod CallTree
-pub mod Carried
-pub mod Endings
+pub mod Cuts
 pub mod Leads
 pub mod LocationTree
 pub mod PieceTree
-pub mod Quiet
 pub mod Refusals
 pub mod StreamTree

@@ -26,12 +26,12 @@ use Rattle.engine_terms.specs.declared.error.OciDistributionError.TheVariants as
 use Rattle.engine_terms.specs.declared.settings.Settings.{Settings}
 use Rattle.engine_answers.specs.Answers.{is_success}
 use Rattle.engine_rows.proofs.Exits.{said}
-use Rattle.engine_push.specs.Bodies.{bodies, IsPrefix, Sends}
-use Rattle.engine_push.specs.PieceStates.{part}
-use Rattle.engine_push.specs.Contents.{bytes_of, with_fields, with_content}
-use Rattle.engine_push.specs.declared.content.Content.{Content}
-use Rattle.engine_push.specs.Locations.{located}
-use Rattle.engine_push.specs.Uploads.{unless_success, location_reply, location_after}
+use Rattle.push_rows.specs.Bodies.{bodies, IsPrefix, Sends}
+use Rattle.push_rows.specs.PieceStates.{part}
+use Rattle.push_rows.specs.Contents.{bytes_of, with_fields, with_content}
+use Rattle.push_rows.specs.declared.content.Content.{Content}
+use Rattle.push_rows.specs.Locations.{located}
+use Rattle.push_rows.specs.Uploads.{unless_success, location_reply, location_after}
 
 success_unread : (limit : ℕ) (head : AnswerHead) → is_success head.status ≡ true → unless_success limit head ≡ Unread
 unfolding unless_success

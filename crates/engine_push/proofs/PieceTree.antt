@@ -22,15 +22,16 @@ use Rattle.engine_terms.specs.declared.error.OciDistributionError.{OciDistributi
 use Rattle.engine_terms.specs.declared.error.OciDistributionError.TheVariants as refusal
 use Rattle.engine_rows.specs.Rows.{Row}
 use Rattle.engine_rows.proofs.Exits.{refused, wanting, and_then, said, done}
-use Rattle.engine_push.specs.Bodies.{bodies, IsPrefix}
+use Rattle.push_rows.specs.Bodies.{bodies, IsPrefix}
 use Rattle.engine_terms.specs.declared.error.GenericCause.TheVariants.{NoSize, SizeDiffers}
 use Rattle.oci_transport.specs.declared.message.Exchange.{Exchange}
-use Rattle.engine_push.proofs.Endings.{StepTold, told_long}
-use Rattle.engine_push.specs.PieceStates.{PieceState, Takes, TakesPieces, NoneAhead, part}
+use Rattle.push_rows.proofs.Endings.{StepTold, told_long}
+use Rattle.push_rows.specs.PieceStates.{PieceState, Takes, TakesPieces, NoneAhead, part}
 use Rattle.engine_push.specs.Sources.{cuts, AllCut, SomeCut, AllJoined, Cuts, AllGathered, TookMore, NoPiece, NotHeld, NotSent, SourceCause, IsPrefixOf, Pushes, AllConsumed, Hashed, sent_in}
-use Rattle.engine_push.specs.Uploads.{Sent, chunks, chunks_sent, piece_of, next_piece, no_longer, unless_last, pieces_sent, all_sent, pieces_read, all_read}
+use Rattle.push_rows.specs.Uploads.{Sent, chunks, chunks_sent, piece_of, next_piece, no_longer, unless_last, pieces_sent, all_sent, pieces_read, all_read}
 use Rattle.engine_push.specs.declared.pieces.Upload.{Upload}
-use Rattle.engine_push.proofs.Carried.{Carries, CarriesFront, carries_none, carries_more, bodies_both, joined_front, joined_one, joined_cuts, cuts_one, part_some}
+use Rattle.push_rows.proofs.Carried.{Carries, CarriesFront, carries_none, carries_more, bodies_both, joined_front, joined_one, part_some}
+use Rattle.engine_push.proofs.Cuts.{joined_cuts, cuts_one}
 use Rattle.engine_push.proofs.Leads.{LeadsTo, leads_start, leads_next}
 
 -- ---- the next piece

@@ -5,8 +5,8 @@ use Rattle.json_values.specs.Refusals.{Matches, ◌>>=◌}
 use Rattle.engine_terms.specs.Error.{is_memory}
 use Rattle.oci_transport.specs.Headers.{Fields}
 use Rattle.engine_requests.specs.Requests.{with_header}
-use Rattle.engine_push.specs.Contents.{range_text, octet_stream, with_length, with_type, with_fields}
-use Rattle.engine_push.specs.declared.content.Content.TheVariants.{Whole, Chunk}
+use Rattle.push_rows.specs.Contents.{range_text, octet_stream, with_length, with_type, with_fields}
+use Rattle.push_rows.specs.declared.content.Content.TheVariants.{Whole, Chunk}
 use Rattle.json_values.proofs.Refusals.{says_first, says_next}
 
 -- ---- the fields of a chunk

@@ -22,12 +22,12 @@ use Rattle.engine_terms.specs.declared.error.OciDistributionError.{OciDistributi
 use Rattle.engine_terms.specs.declared.error.OciDistributionError.TheVariants as refusal
 use Rattle.engine_rows.specs.Rows.{Row}
 use Rattle.engine_rows.proofs.Exits.{refused, and_then, said, done}
-use Rattle.engine_push.specs.Bodies.{bodies, IsPrefix}
-use Rattle.engine_push.specs.Calls.{size_given, stream_sent, response_of}
-use Rattle.engine_push.specs.PieceStates.{PieceState, Takes, TakesPieces, part}
+use Rattle.push_rows.specs.Bodies.{bodies, IsPrefix}
+use Rattle.push_rows.specs.Calls.{size_given, stream_sent, response_of}
+use Rattle.push_rows.specs.PieceStates.{PieceState, Takes, TakesPieces, part}
 use Rattle.engine_push.specs.Sources.{cuts, AllCut, SomeCut, AllJoined, SomeJoined, Cuts, CutBy, NotSent, SourceCause, TookAll, IsPrefixOf, Pushes}
-use Rattle.engine_push.specs.Uploads.{Sent, upload_begun, all_sent}
-use Rattle.engine_push.proofs.Carried.{Carries, CarriesFront, front_behind_more, bodies_both, joined_part}
+use Rattle.push_rows.specs.Uploads.{Sent, upload_begun, all_sent}
+use Rattle.push_rows.proofs.Carried.{Carries, CarriesFront, front_behind_more, bodies_both, joined_part}
 use Rattle.engine_push.proofs.PieceTree.{nil_of, sent_source, front_of_left, pushes_refused, takes_none}
 
 pub size_unknown : {A : Type 0} (f : ℕ → Row A) (link : Link) (k : AuthState) → Meets is_memory (Done (size_given None) >>= f) link link k k (Err (refusal.GenericError NoSize))

@@ -1,9 +1,2 @@
-pub mod Bodies
-pub mod Calls
-pub mod Causes
-pub mod Contents
-pub mod Locations
 pub mod MemoryPieces
-pub mod PieceStates
 pub mod Sources
-pub mod Uploads

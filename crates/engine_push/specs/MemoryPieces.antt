@@ -1,7 +1,7 @@
 -- The state of pieces in memory.
 use Rattle.std.specs.Prelude.{ℕ, List, Some, drop}
 use Rattle.oci_transport.specs.Pieces.{joined}
-use Rattle.engine_push.specs.PieceStates.{PieceState}
+use Rattle.push_rows.specs.PieceStates.{PieceState}
 use Rattle.engine_push.specs.declared.memory_pieces.MemoryPieces.{MemoryPieces}
 
 -- the pieces that are left, and their bytes

@@ -12,9 +12,9 @@ use Rattle.oci_protocol.specs.Runs.{Told}
 use Rattle.engine_terms.specs.declared.error.OciDistributionError.{OciDistributionError}
 use Rattle.engine_terms.specs.declared.error.OciDistributionError.TheVariants as refusal
 use Rattle.engine_terms.specs.declared.error.GenericCause.TheVariants.{NoSize, SizeDiffers}
-use Rattle.engine_push.specs.Bodies.{bodies, IsPrefix, LastLong}
-use Rattle.engine_push.specs.PieceStates.{PieceState, Takes, TakesPieces, NoneAhead, part}
-use Rattle.engine_push.specs.Uploads.{Sent, chunks}
+use Rattle.push_rows.specs.Bodies.{bodies, IsPrefix, LastLong}
+use Rattle.push_rows.specs.PieceStates.{PieceState, Takes, TakesPieces, NoneAhead, part}
+use Rattle.push_rows.specs.Uploads.{Sent, chunks}
 use Rattle.engine_push.specs.declared.pieces.Upload.{Upload}
 
 -- these bytes are a prefix of what is left, if that is exposed

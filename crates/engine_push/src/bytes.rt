@@ -3,14 +3,14 @@ ghost use Rattle.std.specs.Prelude.{◌≡◌};
 ghost use Rattle.oci_protocol.specs.Runs.{Meets};
 ghost use Rattle.engine_terms.specs.Contexts.{context_of};
 ghost use Rattle.engine_terms.specs.Error.{is_memory};
-ghost use Rattle.engine_push.specs.Calls.{push_chunked, push_whole, is_violation, push_blob};
+ghost use Rattle.push_rows.specs.Calls.{push_chunked, push_whole, is_violation, push_blob};
 
-use crate::content::Content;
 use crate::uploads::{chunks_sent, upload_begun, upload_ended};
 use engine_terms::{Call, OciDistributionError};
 use json_values::{Blob, Text};
 use oci_auth::AuthState;
 use oci_transport::Transport;
+use push_rows::Content;
 use std::alloc::Global;
 
 fn push_chunked<T: Transport>(

@@ -2,27 +2,18 @@
 ghost use Rattle.std.specs.Prelude.{◌≡◌, ◌+◌, ◌<◌, ◌^◌, length, IfOk};
 ghost use Rattle.json_values.specs.Refusals.{Matches};
 ghost use Rattle.engine_terms.specs.Error.{is_memory};
-ghost use Rattle.engine_push.specs.Contents.{IsWithin, bytes_of, range_text, with_length, with_type};
-ghost use Rattle.engine_push.specs.Contents.{with_fields, with_content};
+ghost use Rattle.push_rows.specs.Contents.{IsWithin, bytes_of, range_text, with_length, with_type};
+ghost use Rattle.push_rows.specs.Contents.{with_fields, with_content};
 
 use engine_requests::with_header;
 use engine_terms::OciDistributionError;
 use json_values::{Blob, Text, write_decimal};
 use oci_transport::{Headers, Request};
+use push_rows::Content;
 use std::alloc::{AllocError, Global};
 
 /// The media type of a blob's bytes.
 const OCTET_STREAM: &str = "application/octet-stream";
-
-/// What a request of a push contains: no bytes, a whole blob, a chunk of one with the offset of its first byte, or a
-/// document with its media type.
-#[derive(Drop)]
-pub enum Content {
-    Nothing,
-    Whole(Blob),
-    Chunk { start: u64, bytes: Blob },
-    Document { media_type: Text, bytes: Blob },
-}
 
 fn range_text(alloc: Global, start: u64, bytes: &[u8]) -> Result<Text, AllocError>
     requires { start + length bytes.now < 2 ^ 64 }
@@ -97,7 +88,7 @@ fn into_bytes(alloc: Global, content: Content) -> Blob
 }
 
 /// Returns the request with this content, and the header fields that describe it.
-#[tactic(auto, unfolding(crate::specs::Contents::with_content))]
+#[tactic(auto, unfolding(push_rows::specs::Contents::with_content))]
 pub(crate) fn with_content(
     alloc: Global,
     request: Request,

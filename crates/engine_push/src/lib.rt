@@ -13,9 +13,9 @@ mod stream;
 mod uploads;
 
 pub use bytes::push_blob;
-pub use content::Content;
 pub use memory_pieces::MemoryPieces;
 pub use mounting::mount_blob;
 pub use piece_source::PieceSource;
-pub use stream::{PushBlobStreamChunkedResponse, push_blob_stream, push_blob_stream_chunked};
+pub use push_rows::{Content, PushBlobStreamChunkedResponse};
+pub use stream::{push_blob_stream, push_blob_stream_chunked};
 pub use uploads::sent;

@@ -2,7 +2,7 @@
 ghost use Rattle.std.specs.Prelude.{◌≡◌, IfOk, option_copied};
 ghost use Rattle.json_values.specs.Refusals.{Matches};
 ghost use Rattle.engine_terms.specs.Error.{is_memory};
-ghost use Rattle.engine_push.specs.Locations.{resolved, location_of, located};
+ghost use Rattle.push_rows.specs.Locations.{resolved, location_of, located};
 
 use engine_requests::registry_text;
 use engine_terms::{Call, OciDistributionError, SpecViolation};
@@ -41,7 +41,7 @@ fn location_of(
 }
 
 /// Returns the location that a response from this URL names, if it has the expected status.
-#[tactic(auto, unfolding(crate::specs::Locations::located))]
+#[tactic(auto, unfolding(push_rows::specs::Locations::located))]
 pub(crate) fn located(
     alloc: Global,
     call: &Call,

@@ -3,7 +3,7 @@ ghost use Rattle.std.specs.Prelude.{◌≡◌, ◌≤◌, length, [], Some, Cont
 ghost use Rattle.std.specs.Io.KnownBytes.{Keeps, IsAtEnd};
 ghost use Rattle.json_values.specs.Counts.{Increased, Unchanged, incremented};
 ghost use Rattle.oci_transport.specs.Pieces.{NoneEmpty, joined};
-ghost use Rattle.engine_push.specs.PieceStates.{Takes, TakesPieces, NoneAhead, part};
+ghost use Rattle.push_rows.specs.PieceStates.{Takes, TakesPieces, NoneAhead, part};
 
 use crate::piece_source::PieceSource;
 use json_values::{Blob, Copied, List};

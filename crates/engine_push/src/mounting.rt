@@ -3,9 +3,8 @@ ghost use Rattle.std.specs.Prelude.{◌≡◌, [], ◌∷◌, IfOk};
 ghost use Rattle.oci_protocol.specs.Runs.{Meets};
 ghost use Rattle.engine_terms.specs.Contexts.{context_of};
 ghost use Rattle.engine_terms.specs.Error.{is_memory};
-ghost use Rattle.engine_push.specs.Calls.{mount_url, mount_blob};
+ghost use Rattle.push_rows.specs.Calls.{mount_url, mount_blob};
 
-use crate::content::Content;
 use crate::uploads::sent;
 use engine_requests::uploads_url;
 use engine_steps::Target;
@@ -13,6 +12,7 @@ use engine_terms::{Call, OciDistributionError};
 use oci_auth::AuthState;
 use oci_names::Reference;
 use oci_transport::{Method, Transport};
+use push_rows::Content;
 use std::alloc::{AllocError, Global};
 use url::Url;
 

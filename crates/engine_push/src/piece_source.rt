@@ -2,7 +2,7 @@
 ghost use Rattle.std.specs.Prelude.{◌≡◌, ◌≤◌, [], IfOk, OnOk, OnErr, IsErrOf};
 ghost use Rattle.std.specs.Io.KnownBytes.{IsAtEnd};
 ghost use Rattle.json_values.specs.Counts.{Increased, Unchanged};
-ghost use Rattle.engine_push.specs.PieceStates.{PieceState, Takes, TakesPieces, NoneAhead, part};
+ghost use Rattle.push_rows.specs.PieceStates.{PieceState, Takes, TakesPieces, NoneAhead, part};
 
 use json_values::Blob;
 use oci_transport::LinkError;

@@ -2,13 +2,13 @@
 ghost use Rattle.std.specs.Prelude.{◌≡◌, ◌≤◌, ◌++◌, [], ℕ, List, IfOk, IfErr, OnErr, is_some};
 ghost use Rattle.std.specs.Io.KnownBytes.{IsAtEnd};
 ghost use Rattle.json_values.specs.Counts.{Increased};
-ghost use Rattle.engine_push.specs.PieceStates.{Takes, TakesPieces, NoneAhead, part};
+ghost use Rattle.push_rows.specs.PieceStates.{Takes, TakesPieces, NoneAhead, part};
 ghost use Rattle.oci_auth.specs.declared.auth_state.AuthState.{AuthState};
 ghost use Rattle.oci_transport.specs.Link.{Link};
 ghost use Rattle.oci_protocol.specs.Runs.{Meets};
 ghost use Rattle.engine_terms.specs.Contexts.{context_of};
 ghost use Rattle.engine_terms.specs.Error.{is_memory};
-ghost use Rattle.engine_push.specs.Uploads.{next_piece, all_sent, all_read};
+ghost use Rattle.push_rows.specs.Uploads.{next_piece, all_sent, all_read};
 ghost use Rattle.engine_push.specs.Sources.{Pushes, Cuts, AllConsumed, AllGathered, TookAll, NoPiece, NotHeld, NotSent};
 ghost use Rattle.engine_push.specs.Sources.{Hashed, IsUpload, sent_in};
 

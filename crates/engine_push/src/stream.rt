@@ -4,41 +4,19 @@ ghost use Rattle.std.specs.Option.{option_copied};
 ghost use Rattle.oci_protocol.specs.Runs.{Meets};
 ghost use Rattle.engine_terms.specs.Contexts.{context_of};
 ghost use Rattle.engine_terms.specs.Error.{is_memory};
-ghost use Rattle.engine_push.specs.Calls.{stream_whole, stream_chunked, push_blob_stream, push_blob_stream_chunked};
+ghost use Rattle.push_rows.specs.Calls.{stream_whole, stream_chunked, push_blob_stream, push_blob_stream_chunked};
 ghost use Rattle.engine_push.specs.Sources.{Pushes, Cuts, CutBy, NotSent, SourceCause};
 
-use crate::content::Content;
 use crate::piece_source::PieceSource;
 use crate::pieces::{Upload, pieces_read, pieces_sent};
 use crate::uploads::{upload_begun, upload_ended};
 use engine_terms::{Call, GenericCause, OciDistributionError};
-use json_values::{Copied, Text, copied};
+use json_values::Text;
 use oci_auth::AuthState;
 use oci_digests::{Algorithm, Digester};
 use oci_transport::Transport;
-use std::alloc::{AllocError, Global};
-
-/// The result of pushing a stream: the URL of the blob, its SHA-256 digest, and its size in bytes.
-#[derive(Debug, Drop, PartialEq, Eq)]
-pub struct PushBlobStreamChunkedResponse {
-    pub blob_url: Text,
-    pub blob_digest: Text,
-    pub size: u64,
-}
-
-impl Copied for PushBlobStreamChunkedResponse {
-    fn copy(&self, alloc: Global) -> Result<PushBlobStreamChunkedResponse, AllocError> {
-        copied!(
-            alloc,
-            self,
-            PushBlobStreamChunkedResponse {
-                blob_url,
-                blob_digest,
-                size
-            }
-        )
-    }
-}
+use push_rows::{Content, PushBlobStreamChunkedResponse};
+use std::alloc::Global;
 
 #[tactic(none)]
 fn stream_whole<T: Transport, P: PieceSource>(

@@ -4,13 +4,13 @@ ghost use Rattle.oci_auth.specs.declared.auth_state.AuthState.{AuthState};
 ghost use Rattle.oci_protocol.specs.Runs.{Meets};
 ghost use Rattle.engine_terms.specs.Contexts.{context_of};
 ghost use Rattle.engine_terms.specs.Error.{is_memory};
-ghost use Rattle.engine_push.specs.Contents.{IsWithin, bytes_of};
-ghost use Rattle.engine_push.specs.Bodies.{Sends};
-ghost use Rattle.engine_push.specs.PieceStates.{part};
-ghost use Rattle.engine_push.specs.Uploads.{location_after, sent, upload_begun, upload_ended};
-ghost use Rattle.engine_push.specs.Uploads.{chunk_sent, chunks, chunks_sent};
+ghost use Rattle.push_rows.specs.Contents.{IsWithin, bytes_of};
+ghost use Rattle.push_rows.specs.Bodies.{Sends};
+ghost use Rattle.push_rows.specs.PieceStates.{part};
+ghost use Rattle.push_rows.specs.Uploads.{location_after, sent, upload_begun, upload_ended};
+ghost use Rattle.push_rows.specs.Uploads.{chunk_sent, chunks, chunks_sent};
 
-use crate::content::{Content, with_content};
+use crate::content::with_content;
 use crate::locations::located;
 use engine_answers::is_success;
 use engine_requests::{read_url, request_of, uploads_url, with_pair};
@@ -20,6 +20,7 @@ use json_values::{Blob, Text};
 use oci_auth::{AuthState, RegistryOperation};
 use oci_protocol::{Reached, reach};
 use oci_transport::{BodyError, LinkError, Method, Request, Transport, read_body};
+use push_rows::Content;
 use std::alloc::Global;
 
 /// The maximum size of a chunk, in bytes.

@@ -33,11 +33,11 @@ use Rattle.engine_rows.specs.Causes.{Act, Reads, BadHeader, IsEarly, IsEarlyRefu
 use Rattle.engine_rows.specs.Confined.{Each}
 use Rattle.engine_rows.specs.Held.{Entry, pulling}
 use Rattle.engine_rows.specs.Rows.{authorized}
-use Rattle.engine_laws.proofs.EarlyCauses.{EarlyCause, Early, authorized_early}
-use Rattle.engine_laws.proofs.KeptTokens.{Keeps}
-use Rattle.engine_laws.proofs.PreparedRequests.{with_ok, asks_of}
-use Rattle.engine_laws.proofs.RequestConfinement.{SentValue, request_values, request_url_is}
-use Rattle.engine_laws.proofs.ShownTokens.{none_held, one_held, refused_value, into_err, MayShow, MayShowAt, AuthorizedAt, Carries, HeaderCause, Ready, safe_done, sent_by, shown_at, authorized_safe}
+use Rattle.request_laws.proofs.EarlyCauses.{EarlyCause, Early, authorized_early}
+use Rattle.request_laws.proofs.KeptTokens.{Keeps}
+use Rattle.request_laws.proofs.PreparedRequests.{with_ok, asks_of}
+use Rattle.request_laws.proofs.RequestConfinement.{SentValue, request_values, request_url_is}
+use Rattle.request_laws.proofs.ShownTokens.{none_held, one_held, refused_value, into_err, MayShow, MayShowAt, AuthorizedAt, Carries, HeaderCause, Ready, safe_done, sent_by, shown_at, authorized_safe}
 use Rattle.engine_listings.specs.Causes.{BadValue}
 use Rattle.engine_listings.specs.Listings.{bare}
 

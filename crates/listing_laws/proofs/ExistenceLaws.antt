@@ -28,17 +28,17 @@ use Rattle.engine_rows.specs.Answered.{Asks}
 use Rattle.engine_rows.specs.Causes.{Act, Sends, Cause, IsEarly, IsRefusedAs}
 use Rattle.engine_rows.specs.Confined.{Within}
 use Rattle.engine_rows.specs.Held.{Entry, pulling}
-use Rattle.engine_laws.proofs.CallConfinement.{call_within}
-use Rattle.engine_laws.proofs.DocumentAnswers.{url_is}
-use Rattle.engine_laws.proofs.DocumentCauses.{cause_later, early_shown, heard_answer, heard_failed, heard_long, last_later, status_is, url_cause}
-use Rattle.engine_laws.proofs.EarlyCauses.{AnyValue}
-use Rattle.engine_laws.proofs.ExactRefusals.{Only, no_url, url_first as first_url, early_on, met_only, met_early}
-use Rattle.engine_laws.proofs.FaultCounts.{failed_last, fault_last, refusal_both}
-use Rattle.engine_laws.proofs.HeaderCauses.{Sound}
-use Rattle.engine_laws.proofs.KeptTokens.{Keeps, keeps_first}
-use Rattle.engine_laws.proofs.PlainRefusals.{refused_plain}
-use Rattle.engine_laws.proofs.RequestConfinement.{Sent}
-use Rattle.engine_laws.proofs.ShownTokens.{Carries, Ended, safe_done, safe_follow, safe_ready, plain_last, url_first}
+use Rattle.request_laws.proofs.CallConfinement.{call_within}
+use Rattle.request_laws.proofs.DocumentAnswers.{url_is}
+use Rattle.request_laws.proofs.DocumentCauses.{cause_later, early_shown, heard_answer, heard_failed, heard_long, last_later, status_is, url_cause}
+use Rattle.request_laws.proofs.EarlyCauses.{AnyValue}
+use Rattle.request_laws.proofs.ExactRefusals.{Only, no_url, url_first as first_url, early_on, met_only, met_early}
+use Rattle.request_laws.proofs.FaultCounts.{failed_last, fault_last, refusal_both}
+use Rattle.request_laws.proofs.HeaderCauses.{Sound}
+use Rattle.request_laws.proofs.KeptTokens.{Keeps, keeps_first}
+use Rattle.request_laws.proofs.PlainRefusals.{refused_plain}
+use Rattle.request_laws.proofs.RequestConfinement.{Sent}
+use Rattle.request_laws.proofs.ShownTokens.{Carries, Ended, safe_done, safe_follow, safe_ready, plain_last, url_first}
 use Rattle.engine_listings.specs.Causes.{BadValue, ExistsUrl, Tells, ExistsAnswered, ExistsAnswer}
 use Rattle.engine_listings.specs.Listings.{bare, is_told, unless_told, is_there, there_after, blob_exists}
 use Rattle.listing_laws.proofs.BareRequests.{bare_causes, bare_safe, bare_bad}

@@ -33,16 +33,16 @@ use Rattle.engine_rows.specs.Rows.{Row, store, whole}
 use Rattle.engine_rows.specs.Causes.{Act, Sends, ByLast, LastAnswer, Cause, IsEarly, IsRefusedAs}
 use Rattle.engine_rows.specs.Confined.{Within}
 use Rattle.engine_rows.specs.Held.{pulling}
-use Rattle.engine_laws.proofs.CallConfinement.{call_within}
-use Rattle.engine_laws.proofs.DocumentAnswers.{accepted_is, url_is}
-use Rattle.engine_laws.proofs.DocumentCauses.{cause_later, early_shown, last_later, url_cause, whole_causes}
-use Rattle.engine_laws.proofs.EarlyCauses.{AnyValue, store_causes}
-use Rattle.engine_laws.proofs.ExactRefusals.{Only, no_url, url_first as first_url, early_on, met_only, met_early}
-use Rattle.engine_laws.proofs.FaultCounts.{failed_last, fault_last, refusal_both}
-use Rattle.engine_laws.proofs.HeaderCauses.{Sound, whole_sound}
-use Rattle.engine_laws.proofs.KeptTokens.{Keeps, keeps_first}
-use Rattle.engine_laws.proofs.PlainRefusals.{Plain, accepted_plain}
-use Rattle.engine_laws.proofs.ShownTokens.{Carries, Ended, safe_next, safe_ready, store_safe, plain_step, plain_last, url_first}
+use Rattle.request_laws.proofs.CallConfinement.{call_within}
+use Rattle.request_laws.proofs.DocumentAnswers.{accepted_is, url_is}
+use Rattle.request_laws.proofs.DocumentCauses.{cause_later, early_shown, last_later, url_cause, whole_causes}
+use Rattle.request_laws.proofs.EarlyCauses.{AnyValue, store_causes}
+use Rattle.request_laws.proofs.ExactRefusals.{Only, no_url, url_first as first_url, early_on, met_only, met_early}
+use Rattle.request_laws.proofs.FaultCounts.{failed_last, fault_last, refusal_both}
+use Rattle.request_laws.proofs.HeaderCauses.{Sound, whole_sound}
+use Rattle.request_laws.proofs.KeptTokens.{Keeps, keeps_first}
+use Rattle.request_laws.proofs.PlainRefusals.{Plain, accepted_plain}
+use Rattle.request_laws.proofs.ShownTokens.{Carries, Ended, safe_next, safe_ready, store_safe, plain_step, plain_last, url_first}
 use Rattle.engine_listings.specs.Causes.{BadValue, ListUrl, ListAnswered, ListAnswer}
 use Rattle.engine_listings.specs.Listings.{bare, with_page, list_asked, or_unread, list_in, listed}
 use Rattle.listing_laws.proofs.BareRequests.{bare_causes, bare_safe, bare_bad}

@@ -14,9 +14,9 @@ use Rattle.engine_terms.specs.declared.settings.Settings.{Settings}
 use Rattle.engine_answers.specs.Answers.{is_success, is_client_error, envelope_in, by_envelope, refused_answer, accepted}
 use Rattle.engine_rows.specs.Causes.{Act, LastAnswer, AnswerCause, Cause}
 use Rattle.engine_rows.specs.Held.{Entry}
-use Rattle.engine_laws.proofs.DocumentCauses.{status_cause, status_other}
-use Rattle.engine_laws.proofs.EarlyCauses.{AnyValue}
-use Rattle.engine_laws.proofs.ShownTokens.{HeaderCause}
+use Rattle.request_laws.proofs.DocumentCauses.{status_cause, status_other}
+use Rattle.request_laws.proofs.EarlyCauses.{AnyValue}
+use Rattle.request_laws.proofs.ShownTokens.{HeaderCause}
 use Rattle.engine_listings.specs.Causes.{BadValue, StatusCause, ListAnswer}
 use Rattle.listing_laws.proofs.BareRequests.{bad_value}
 

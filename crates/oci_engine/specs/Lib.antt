@@ -10,5 +10,5 @@ pub use Rattle.engine_rows.specs.Held
 pub use Rattle.engine_rows.specs.TokenCauses
 pub use Rattle.engine_streams.specs.Causes as StreamCauses
 pub use Rattle.engine_listings.specs.Causes as ListingCauses
-pub use Rattle.engine_push.specs.Causes as PushCauses
-pub use Rattle.engine_publish.specs.Causes as PublishCauses
+pub use Rattle.push_rows.specs.Causes as PushCauses
+pub use Rattle.push_rows.specs.ImageCauses as PublishCauses

@@ -1,5 +1,5 @@
 -- Why each call of a client was refused. The words are those of `Causes.antt` in `engine_rows`, and for streams, lists
--- and pushes of `Causes.antt` in `engine_streams`, `engine_listings`, `engine_push` and `engine_publish`.
+-- and pushes of `Causes.antt` in `engine_streams`, `engine_listings` and `push_rows`.
 use Rattle.std.specs.Prelude.{◌≡◌, ℕ, List, Option, Some, None, Result, Err, IfErr}
 use Rattle.json_values.specs.Counts.{Increased}
 use Rattle.oci_transport.specs.Link.{Link}
@@ -27,9 +27,9 @@ use Rattle.engine_streams.specs.declared.range.ByteRange.{ByteRange}
 use Rattle.engine_streams.specs.Causes.{StreamCause, StreamUrl}
 use Rattle.engine_listings.specs.Causes.{BadValue, ExistsUrl, ExistsAnswer, ListUrl, ListAnswer}
 use Rattle.engine_listings.specs.Listings.{tags_text, catalog_text}
-use Rattle.engine_push.specs.Causes.{UploadCause, MountCause}
-use Rattle.engine_publish.specs.Calls.{manifest_for}
-use Rattle.engine_publish.specs.Causes.{ManifestPushCause, ImagePushCause, blobs_of}
+use Rattle.push_rows.specs.Causes.{UploadCause, MountCause}
+use Rattle.push_rows.specs.Images.{manifest_for}
+use Rattle.push_rows.specs.ImageCauses.{ManifestPushCause, ImagePushCause, blobs_of}
 use Rattle.oci_manifests.specs.Document.{content_type_of}
 use Rattle.oci_manifests.specs.declared.blob.Config.{Config}
 use Rattle.oci_manifests.specs.declared.blob.ImageLayer.{ImageLayer}

@@ -45,20 +45,20 @@ use Rattle.engine_terms.specs.declared.settings.Settings.{Settings}
 use Rattle.engine_requests.specs.Addresses.{uploads_text, url_read}
 use Rattle.engine_requests.specs.Requests.{with_header, with_accept, with_token, headers_of, bare_request, request_of}
 use Rattle.engine_rows.specs.Rows.{Row, authorized, store}
-use Rattle.engine_laws.proofs.PreparedRequests.{with_ok, into_ok}
-use Rattle.engine_laws.proofs.RequestConfinement.{request_method_is, request_url_is}
-use Rattle.engine_push.specs.Bodies.{bodies}
-use Rattle.engine_push.specs.Calls.{push_chunked, not_empty, push_whole, is_violation, or_whole, push_blob}
-use Rattle.engine_push.specs.Contents.{bytes_of, octet_stream, range_text, with_length, with_type, with_fields, with_content}
-use Rattle.engine_push.specs.Locations.{location_of, located}
-use Rattle.engine_push.specs.PieceStates.{part}
-use Rattle.engine_push.specs.Uploads.{unless_success, location_reply, location_after, sent, upload_begun, chunk_sent, upload_ended, chunks, chunks_sent}
-use Rattle.engine_push.specs.declared.content.Content.{Content}
-use Rattle.engine_push.specs.declared.content.Content.TheVariants.{Nothing, Whole, Chunk, Document}
+use Rattle.request_laws.proofs.PreparedRequests.{with_ok, into_ok}
+use Rattle.request_laws.proofs.RequestConfinement.{request_method_is, request_url_is}
+use Rattle.push_rows.specs.Bodies.{bodies}
+use Rattle.push_rows.specs.Calls.{push_chunked, not_empty, push_whole, is_violation, or_whole, push_blob}
+use Rattle.push_rows.specs.Contents.{bytes_of, octet_stream, range_text, with_length, with_type, with_fields, with_content}
+use Rattle.push_rows.specs.Locations.{location_of, located}
+use Rattle.push_rows.specs.PieceStates.{part}
+use Rattle.push_rows.specs.Uploads.{unless_success, location_reply, location_after, sent, upload_begun, chunk_sent, upload_ended, chunks, chunks_sent}
+use Rattle.push_rows.specs.declared.content.Content.{Content}
+use Rattle.push_rows.specs.declared.content.Content.TheVariants.{Nothing, Whole, Chunk, Document}
 use Rattle.push_laws.proofs.PushedHeaders.{content_made}
-use Rattle.engine_publish.specs.Calls.{digest_of_entry, digest_of_layer, manifest_for, digests_for, layers_pushed, image_pushed, push}
+use Rattle.push_rows.specs.Images.{digest_of_entry, digest_of_layer, manifest_for, digests_for, layers_pushed, image_pushed, push}
 use Rattle.order_laws.specs.Order.{OfBlob, BlobAnswered, InOrder, NothingFirst, pushed_digests, ManifestsComeLast}
-use Rattle.engine_publish.specs.declared.images.PushResponse.{PushResponse}
+use Rattle.push_rows.specs.declared.responses.PushResponse.{PushResponse}
 use Rattle.publish_laws.proofs.SentDocuments.{bodiless_run, exposed, only_one}
 
 -- ---- exchanges that push no document

@@ -19,10 +19,10 @@ use Rattle.oci_transport.specs.declared.message.Method.TheVariants.{Put}
 use Rattle.engine_terms.specs.Contexts.{Context}
 use Rattle.engine_terms.specs.Error.{is_memory}
 use Rattle.engine_terms.specs.declared.error.OciDistributionError.{OciDistributionError}
-use Rattle.engine_push.specs.Contents.{octet_stream}
-use Rattle.engine_push.specs.PieceStates.{part}
-use Rattle.engine_publish.specs.Calls.{manifest_for, digests_for, push}
-use Rattle.engine_publish.specs.declared.images.PushResponse.{PushResponse}
+use Rattle.push_rows.specs.Contents.{octet_stream}
+use Rattle.push_rows.specs.PieceStates.{part}
+use Rattle.push_rows.specs.Images.{manifest_for, digests_for, push}
+use Rattle.push_rows.specs.declared.responses.PushResponse.{PushResponse}
 
 -- it pushes no document: it has no body, or bytes of a blob
 abbrev pub OfBlob : Exchange → Type 0

@@ -27,14 +27,14 @@ use Rattle.engine_requests.specs.Addresses.{manifest_text, uploads_text}
 use Rattle.engine_requests.specs.Requests.{request_of}
 use Rattle.engine_rows.specs.Causes.{IsEarly, HasBadHeader}
 use Rattle.engine_rows.specs.Rows.{Row, store}
-use Rattle.engine_laws.proofs.ExactRefusals.{Only, handed_on, no_url, early_on, url_first}
-use Rattle.engine_push.specs.Calls.{push_blob}
-use Rattle.engine_push.specs.Contents.{with_fields, with_content}
-use Rattle.engine_push.specs.Uploads.{location_after, sent}
-use Rattle.engine_push.specs.declared.content.Content.TheVariants.{Document}
-use Rattle.engine_push.proofs.Endings.{Textual, made_textual}
+use Rattle.request_laws.proofs.ExactRefusals.{Only, handed_on, no_url, early_on, url_first}
+use Rattle.push_rows.specs.Calls.{push_blob}
+use Rattle.push_rows.specs.Contents.{with_fields, with_content}
+use Rattle.push_rows.specs.Uploads.{location_after, sent}
+use Rattle.push_rows.specs.declared.content.Content.TheVariants.{Document}
+use Rattle.push_rows.proofs.Endings.{Textual, made_textual}
 use Rattle.push_laws.proofs.EarlyPushes.{invalid_step, token_first, sent_bad, blob_url, blob_bad}
-use Rattle.engine_publish.specs.Calls.{named_url, or_named, push_manifest_raw, push_manifest, push_manifest_list, manifest_for, digests_for, layers_pushed, image_pushed, push}
+use Rattle.push_rows.specs.Images.{named_url, or_named, push_manifest_raw, push_manifest, push_manifest_list, manifest_for, digests_for, layers_pushed, image_pushed, push}
 
 abbrev invalid : {A : Type 0} → Result A OciDistributionError
 invalid = Err (refusal.GenericError HeaderText)

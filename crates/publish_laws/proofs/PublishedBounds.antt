@@ -19,13 +19,13 @@ use Rattle.engine_terms.specs.Contexts.{Context}
 use Rattle.engine_terms.specs.declared.error.OciDistributionError.{OciDistributionError}
 use Rattle.engine_requests.specs.Addresses.{manifest_text, url_read}
 use Rattle.engine_rows.specs.Rows.{Row, store}
-use Rattle.engine_laws.proofs.KeptTokens.{Keeps, keeps_stored}
-use Rattle.engine_laws.proofs.ShownTokens.{Carries, safe_done}
-use Rattle.engine_push.specs.Calls.{push_blob}
-use Rattle.engine_push.specs.Uploads.{sent}
-use Rattle.engine_push.specs.declared.content.Content.TheVariants.{Document}
+use Rattle.request_laws.proofs.KeptTokens.{Keeps, keeps_stored}
+use Rattle.request_laws.proofs.ShownTokens.{Carries, safe_done}
+use Rattle.push_rows.specs.Calls.{push_blob}
+use Rattle.push_rows.specs.Uploads.{sent}
+use Rattle.push_rows.specs.declared.content.Content.TheVariants.{Document}
 use Rattle.push_laws.proofs.Confinement.{pushing, Kept, Bounded, bound_done, bound_next, bound_caught, url_plain, sent_bound, blob_bound}
-use Rattle.engine_publish.specs.Calls.{named_url, named_for, unless_named, or_named, push_manifest_raw, push_manifest, push_manifest_list, manifest_for, digests_for, layers_pushed, image_pushed, push}
+use Rattle.push_rows.specs.Images.{named_url, named_for, unless_named, or_named, push_manifest_raw, push_manifest, push_manifest_list, manifest_for, digests_for, layers_pushed, image_pushed, push}
 
 module _ (k : AuthState) (s : Context) (image : Reference) (handed : Option RegistryAuth) (kind : List ℕ) where
   abbrev Bounds : {A : Type 0} → Row A → Type 0

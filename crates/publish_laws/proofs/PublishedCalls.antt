@@ -17,12 +17,12 @@ use Rattle.engine_terms.specs.Error.{is_memory}
 use Rattle.engine_terms.specs.declared.error.OciDistributionError.{OciDistributionError}
 use Rattle.engine_rows.specs.Causes.{BadHeader}
 use Rattle.engine_rows.specs.Confined.{Within}
-use Rattle.engine_push.specs.Causes.{of_upload, OfNothing}
+use Rattle.push_rows.specs.Causes.{of_upload, OfNothing}
 use Rattle.push_laws.proofs.CallCauses.{Counted, pushed_reason, pushed_fault}
 use Rattle.push_laws.proofs.Confinement.{pushing, confines}
-use Rattle.engine_publish.specs.Calls.{push_manifest_raw, push_manifest_list, manifest_for, push}
-use Rattle.engine_publish.specs.Causes.{of_manifest, ManifestText, ManifestPushCause, ImageText, OfBlobs, blobs_of, ImagePushCause}
-use Rattle.engine_publish.specs.declared.images.PushResponse.{PushResponse}
+use Rattle.push_rows.specs.Images.{push_manifest_raw, push_manifest_list, manifest_for, push}
+use Rattle.push_rows.specs.ImageCauses.{of_manifest, ManifestText, ManifestPushCause, ImageText, OfBlobs, blobs_of, ImagePushCause}
+use Rattle.push_rows.specs.declared.responses.PushResponse.{PushResponse}
 use Rattle.publish_laws.proofs.PublishedBounds.{raw_bound, list_bound, push_bound}
 use Rattle.publish_laws.proofs.PublishedCauses.{raw_shown, list_shown, push_shown}
 

@@ -25,14 +25,14 @@ use Rattle.engine_terms.specs.declared.error.OciDistributionError.TheVariants as
 use Rattle.engine_terms.specs.declared.settings.Settings.{Settings}
 use Rattle.engine_requests.specs.Addresses.{registry_text, manifest_text}
 use Rattle.engine_rows.specs.Rows.{store}
-use Rattle.engine_push.specs.Calls.{push_blob}
-use Rattle.engine_push.specs.Causes.{of_upload, Named, OfNothing}
-use Rattle.engine_push.specs.Uploads.{sent}
-use Rattle.engine_push.specs.declared.content.Content.TheVariants.{Document}
+use Rattle.push_rows.specs.Calls.{push_blob}
+use Rattle.push_rows.specs.Causes.{of_upload, Named, OfNothing}
+use Rattle.push_rows.specs.Uploads.{sent}
+use Rattle.push_rows.specs.declared.content.Content.TheVariants.{Document}
 use Rattle.push_laws.proofs.RequestCauses.{Loose, Texts, call_texts, texts_after, Shown, shown_next, shown_done, url_shown, sent_shown}
 use Rattle.push_laws.proofs.UploadCauses.{blob_leads}
-use Rattle.engine_publish.specs.Calls.{named_url, named_for, unless_named, or_named, push_manifest_raw, push_manifest, push_manifest_list, manifest_for, digests_for, layers_pushed, image_pushed, push}
-use Rattle.engine_publish.specs.Causes.{of_manifest, ManifestText, ImageText, OfBlobs, blobs_of}
+use Rattle.push_rows.specs.Images.{named_url, named_for, unless_named, or_named, push_manifest_raw, push_manifest, push_manifest_list, manifest_for, digests_for, layers_pushed, image_pushed, push}
+use Rattle.push_rows.specs.ImageCauses.{of_manifest, ManifestText, ImageText, OfBlobs, blobs_of}
 
 -- for any result
 abbrev Anything : {A : Type 0} → List Exchange → A → Type 0

@@ -46,21 +46,21 @@ use Rattle.engine_requests.specs.Addresses.{manifest_name, manifest_text, url_or
 use Rattle.engine_requests.specs.Requests.{with_header, with_accept, with_token, headers_of, bare_request, request_of}
 use Rattle.engine_rows.specs.Causes.{IsEarlyRefusal}
 use Rattle.engine_rows.specs.Rows.{Row, authorized, store}
-use Rattle.engine_laws.proofs.PreparedRequests.{with_ok, into_ok}
-use Rattle.engine_laws.proofs.RequestConfinement.{request_method_is}
-use Rattle.engine_push.specs.Bodies.{bodies}
-use Rattle.engine_push.specs.Causes.{Named, OfNothing}
-use Rattle.engine_push.specs.Contents.{with_fields, with_content}
-use Rattle.engine_push.specs.Uploads.{unless_success, location_reply, location_after, sent}
-use Rattle.engine_push.specs.Locations.{located}
-use Rattle.engine_push.specs.declared.content.Content.TheVariants.{Document}
-use Rattle.engine_push.proofs.Endings.{NoRegistry, authorized_fine, Textual, made_textual, content_textual}
-use Rattle.engine_push.proofs.Quiet.{token_bodiless}
+use Rattle.request_laws.proofs.PreparedRequests.{with_ok, into_ok}
+use Rattle.request_laws.proofs.RequestConfinement.{request_method_is}
+use Rattle.push_rows.specs.Bodies.{bodies}
+use Rattle.push_rows.specs.Causes.{Named, OfNothing}
+use Rattle.push_rows.specs.Contents.{with_fields, with_content}
+use Rattle.push_rows.specs.Uploads.{unless_success, location_reply, location_after, sent}
+use Rattle.push_rows.specs.Locations.{located}
+use Rattle.push_rows.specs.declared.content.Content.TheVariants.{Document}
+use Rattle.push_rows.proofs.Endings.{NoRegistry, authorized_fine, Textual, made_textual, content_textual}
+use Rattle.push_rows.proofs.Quiet.{token_bodiless}
 use Rattle.push_laws.proofs.PushedHeaders.{content_made}
 use Rattle.push_laws.proofs.RequestCauses.{Loose, sent_shown}
-use Rattle.engine_publish.specs.Calls.{before_end, named_url, named_for, unless_named, or_named, push_manifest_raw, push_manifest_list}
-use Rattle.engine_publish.specs.Causes.{of_manifest, ManifestText}
-use Rattle.engine_publish.specs.Sent.{IsDocument, DocumentSent, SentBy, SendsDocument, NamedManifest}
+use Rattle.push_rows.specs.Images.{before_end, named_url, named_for, unless_named, or_named, push_manifest_raw, push_manifest_list}
+use Rattle.push_rows.specs.ImageCauses.{of_manifest, ManifestText}
+use Rattle.push_rows.specs.Sent.{IsDocument, DocumentSent, SentBy, SendsDocument, NamedManifest}
 
 -- ---- any run is exposed by some transport
 

@@ -45,23 +45,23 @@ use Rattle.engine_requests.specs.Requests.{request_of}
 use Rattle.engine_answers.specs.Answers.{is_success}
 use Rattle.oci_transport.specs.Urls.{request_url}
 use Rattle.engine_rows.specs.Rows.{Row, authorized, store}
-use Rattle.engine_laws.proofs.RequestConfinement.{request_method_is}
-use Rattle.engine_push.specs.Bodies.{bodies, IsPrefix}
-use Rattle.engine_push.specs.Calls.{push_chunked, not_empty, push_whole, is_violation, or_whole, push_blob}
-use Rattle.engine_push.specs.Causes.{of_upload}
-use Rattle.engine_push.specs.Contents.{bytes_of, with_content}
-use Rattle.engine_push.specs.Locations.{resolved, location_of, located}
-use Rattle.engine_push.specs.PieceStates.{part}
-use Rattle.engine_push.specs.Uploads.{unless_success, location_reply, location_after, sent, upload_begun, chunk_sent, upload_ended, chunks, chunks_sent}
-use Rattle.engine_push.specs.declared.content.Content.{Content}
-use Rattle.engine_push.specs.declared.content.Content.TheVariants.{Nothing, Whole, Chunk}
-use Rattle.engine_push.proofs.Carried.{bodies_both, joined_both, joined_part, joined_chunks}
-use Rattle.engine_push.proofs.Endings.{NoRegistry, authorized_fine, Textual, made_textual, content_textual}
+use Rattle.request_laws.proofs.RequestConfinement.{request_method_is}
+use Rattle.push_rows.specs.Bodies.{bodies, IsPrefix}
+use Rattle.push_rows.specs.Calls.{push_chunked, not_empty, push_whole, is_violation, or_whole, push_blob}
+use Rattle.push_rows.specs.Causes.{of_upload}
+use Rattle.push_rows.specs.Contents.{bytes_of, with_content}
+use Rattle.push_rows.specs.Locations.{resolved, location_of, located}
+use Rattle.push_rows.specs.PieceStates.{part}
+use Rattle.push_rows.specs.Uploads.{unless_success, location_reply, location_after, sent, upload_begun, chunk_sent, upload_ended, chunks, chunks_sent}
+use Rattle.push_rows.specs.declared.content.Content.{Content}
+use Rattle.push_rows.specs.declared.content.Content.TheVariants.{Nothing, Whole, Chunk}
+use Rattle.push_rows.proofs.Carried.{bodies_both, joined_both, joined_part, joined_chunks}
+use Rattle.push_rows.proofs.Endings.{NoRegistry, authorized_fine, Textual, made_textual, content_textual}
 use Rattle.push_laws.proofs.PushedHeaders.{content_made}
-use Rattle.engine_publish.specs.Calls.{digest_of_entry, digest_of_layer, manifest_for, digests_for, push_manifest, push_manifest_raw, layers_pushed, image_pushed, push}
-use Rattle.engine_publish.specs.Causes.{blobs_of}
-use Rattle.engine_publish.specs.Sent.{DocumentSent, NoneOther, SentBytes, SendsImage}
-use Rattle.engine_publish.specs.declared.images.PushResponse.{PushResponse}
+use Rattle.push_rows.specs.Images.{digest_of_entry, digest_of_layer, manifest_for, digests_for, push_manifest, push_manifest_raw, layers_pushed, image_pushed, push}
+use Rattle.push_rows.specs.ImageCauses.{blobs_of}
+use Rattle.push_rows.specs.Sent.{DocumentSent, NoneOther, SentBytes, SendsImage}
+use Rattle.push_rows.specs.declared.responses.PushResponse.{PushResponse}
 use Rattle.publish_laws.proofs.SentDocuments.{Either, Sends, Refused, raw_runs, bodiless_run, exposed, only_one}
 
 -- ---- exchanges before and after

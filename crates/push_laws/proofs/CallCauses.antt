@@ -18,13 +18,13 @@ use Rattle.engine_rows.specs.Causes.{BadHeader}
 use Rattle.engine_rows.specs.Held.{Entry}
 use Rattle.engine_rows.specs.Rows.{Row}
 use Rattle.engine_rows.specs.TokenCauses.{LastIs}
-use Rattle.engine_laws.proofs.FaultCounts.{fault_last, refusal_both}
-use Rattle.engine_laws.proofs.KeptTokens.{Keeps, keeps_first}
-use Rattle.engine_laws.proofs.ShownTokens.{Carries, HeaderCause}
-use Rattle.engine_push.specs.Calls.{push_blob, push_blob_stream, push_blob_stream_chunked, mount_blob}
-use Rattle.engine_push.specs.Contents.{octet_stream}
-use Rattle.engine_push.specs.declared.stream.PushBlobStreamChunkedResponse.{PushBlobStreamChunkedResponse}
-use Rattle.engine_push.specs.Causes.{of_upload, of_mount, PushText, PushCause, BadUpload, UploadCause, MountCause, OfBytes, OfStream, OfNamedStream, OfNothing}
+use Rattle.request_laws.proofs.FaultCounts.{fault_last, refusal_both}
+use Rattle.request_laws.proofs.KeptTokens.{Keeps, keeps_first}
+use Rattle.request_laws.proofs.ShownTokens.{Carries, HeaderCause}
+use Rattle.push_rows.specs.Calls.{push_blob, push_blob_stream, push_blob_stream_chunked, mount_blob}
+use Rattle.push_rows.specs.Contents.{octet_stream}
+use Rattle.push_rows.specs.declared.responses.PushBlobStreamChunkedResponse.{PushBlobStreamChunkedResponse}
+use Rattle.push_rows.specs.Causes.{of_upload, of_mount, PushText, PushCause, BadUpload, UploadCause, MountCause, OfBytes, OfStream, OfNamedStream, OfNothing}
 use Rattle.push_laws.proofs.Confinement.{pushing, Kept, Bound, blob_bound, stream_bound, named_bound, mount_bound}
 use Rattle.push_laws.proofs.RequestCauses.{Loose, Shown}
 use Rattle.push_laws.proofs.UploadCauses.{blob_shown, stream_shown, named_shown, mount_shown}

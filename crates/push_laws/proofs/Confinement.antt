@@ -36,19 +36,19 @@ use Rattle.engine_rows.specs.Causes.{BadHeader}
 use Rattle.engine_rows.specs.Rows.{Row, authorized}
 use Rattle.engine_rows.specs.Confined.{ToRegistry, Each, Within}
 use Rattle.engine_rows.specs.Held.{Entry, asking}
-use Rattle.engine_laws.proofs.CallConfinement.{call_within}
-use Rattle.engine_laws.proofs.KeptTokens.{Keeps, keeps_first, keeps_more}
-use Rattle.engine_laws.proofs.RequestConfinement.{Sent as SentBy, SentValue, each_more, request_values, request_url_is}
-use Rattle.engine_laws.proofs.SafeKeeps.{Safe-keeps}
-use Rattle.engine_laws.proofs.PlainRefusals.{Plain}
-use Rattle.engine_laws.proofs.ShownTokens.{Carries, AuthorizedAt, HeaderCause, MayShowAt, authorized_safe, plain_cause, safe_done, safe_follow, sent_by, shown_at}
-use Rattle.engine_push.specs.Calls.{push_chunked, not_empty, push_whole, is_violation, or_whole, push_blob, size_given, of_size, stream_whole, stream_sent, stream_chunked, push_blob_stream, push_blob_stream_chunked, mount_url, mount_blob}
-use Rattle.engine_push.specs.Contents.{octet_stream, with_content}
-use Rattle.engine_push.specs.Locations.{resolved, location_of, located}
-use Rattle.engine_push.specs.Uploads.{unless_success, location_reply, location_after, sent, upload_begun, chunk_sent, upload_ended, chunks, chunks_sent, piece_of, next_piece, no_longer, unless_last, pieces_sent, pieces_read, all_read}
-use Rattle.engine_push.specs.declared.content.Content.{Content}
-use Rattle.engine_push.specs.declared.content.Content.TheVariants.{Nothing, Whole, Chunk}
-use Rattle.engine_push.specs.declared.stream.PushBlobStreamChunkedResponse.{PushBlobStreamChunkedResponse}
+use Rattle.request_laws.proofs.CallConfinement.{call_within}
+use Rattle.request_laws.proofs.KeptTokens.{Keeps, keeps_first, keeps_more}
+use Rattle.request_laws.proofs.RequestConfinement.{Sent as SentBy, SentValue, each_more, request_values, request_url_is}
+use Rattle.request_laws.proofs.SafeKeeps.{Safe-keeps}
+use Rattle.request_laws.proofs.PlainRefusals.{Plain}
+use Rattle.request_laws.proofs.ShownTokens.{Carries, AuthorizedAt, HeaderCause, MayShowAt, authorized_safe, plain_cause, safe_done, safe_follow, sent_by, shown_at}
+use Rattle.push_rows.specs.Calls.{push_chunked, not_empty, push_whole, is_violation, or_whole, push_blob, size_given, of_size, stream_whole, stream_sent, stream_chunked, push_blob_stream, push_blob_stream_chunked, mount_url, mount_blob}
+use Rattle.push_rows.specs.Contents.{octet_stream, with_content}
+use Rattle.push_rows.specs.Locations.{resolved, location_of, located}
+use Rattle.push_rows.specs.Uploads.{unless_success, location_reply, location_after, sent, upload_begun, chunk_sent, upload_ended, chunks, chunks_sent, piece_of, next_piece, no_longer, unless_last, pieces_sent, pieces_read, all_read}
+use Rattle.push_rows.specs.declared.content.Content.{Content}
+use Rattle.push_rows.specs.declared.content.Content.TheVariants.{Nothing, Whole, Chunk}
+use Rattle.push_rows.specs.declared.responses.PushBlobStreamChunkedResponse.{PushBlobStreamChunkedResponse}
 use Rattle.push_laws.proofs.PushedHeaders.{content_made}
 use Rattle.push_laws.proofs.PushedValues.{OfKind, bare_held, bad_bare, bad_content}
 

@@ -24,13 +24,13 @@ use Rattle.engine_requests.specs.Addresses.{uploads_text}
 use Rattle.engine_requests.specs.Requests.{with_header, with_accept, with_token, bare_request, request_of}
 use Rattle.engine_rows.specs.Causes.{Act, IsEarly, IsEarlyRefusal}
 use Rattle.engine_rows.specs.Rows.{Row, authorized}
-use Rattle.engine_laws.proofs.EarlyCauses.{Early, EarlyCause, authorized_early}
-use Rattle.engine_laws.proofs.ExactRefusals.{Only, handed_on, no_url, early_on, url_first}
-use Rattle.engine_push.specs.Calls.{push_chunked, push_whole, or_whole, push_blob, stream_whole, stream_sent, stream_chunked, push_blob_stream, push_blob_stream_chunked, mount_url as mounting, mount_blob}
-use Rattle.engine_push.specs.Causes.{IsSized}
-use Rattle.engine_push.specs.Uploads.{sent, upload_begun}
-use Rattle.engine_push.specs.declared.content.Content.{Content}
-use Rattle.engine_push.specs.declared.content.Content.TheVariants.{Nothing}
+use Rattle.request_laws.proofs.EarlyCauses.{Early, EarlyCause, authorized_early}
+use Rattle.request_laws.proofs.ExactRefusals.{Only, handed_on, no_url, early_on, url_first}
+use Rattle.push_rows.specs.Calls.{push_chunked, push_whole, or_whole, push_blob, stream_whole, stream_sent, stream_chunked, push_blob_stream, push_blob_stream_chunked, mount_url as mounting, mount_blob}
+use Rattle.push_rows.specs.Causes.{IsSized}
+use Rattle.push_rows.specs.Uploads.{sent, upload_begun}
+use Rattle.push_rows.specs.declared.content.Content.{Content}
+use Rattle.push_rows.specs.declared.content.Content.TheVariants.{Nothing}
 
 -- ---- one request, with an invalid user agent
 

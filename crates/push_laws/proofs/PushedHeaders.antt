@@ -7,10 +7,10 @@ use Rattle.oci_transport.specs.Headers.{Fields, values_of, added}
 use Rattle.oci_transport.specs.declared.message.Request.{Request}
 use Rattle.json_values.specs.Refusals.{◌>>=◌ as ◌into◌}
 use Rattle.engine_requests.specs.Requests.{with_header}
-use Rattle.engine_laws.proofs.PreparedRequests.{with_ok, into_ok}
-use Rattle.engine_push.specs.Contents.{bytes_of, range_text, octet_stream, with_length, with_type, with_fields, with_content}
-use Rattle.engine_push.specs.declared.content.Content.{Content}
-use Rattle.engine_push.specs.declared.content.Content.TheVariants.{Nothing, Whole, Chunk, Document}
+use Rattle.request_laws.proofs.PreparedRequests.{with_ok, into_ok}
+use Rattle.push_rows.specs.Contents.{bytes_of, range_text, octet_stream, with_length, with_type, with_fields, with_content}
+use Rattle.push_rows.specs.declared.content.Content.{Content}
+use Rattle.push_rows.specs.declared.content.Content.TheVariants.{Nothing, Whole, Chunk, Document}
 
 abbrev shown : Fields → List (List ℕ)
 shown headers = values_of (codes "authorization") headers

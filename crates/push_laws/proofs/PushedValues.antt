@@ -27,11 +27,11 @@ use Rattle.engine_terms.specs.declared.settings.Settings.{Settings}
 use Rattle.engine_requests.specs.Requests.{with_header, with_accept, with_token, headers_of, bare_request, request_of}
 use Rattle.engine_rows.specs.Causes.{HasBadToken, BadHeader}
 use Rattle.engine_rows.specs.Held.{Entry}
-use Rattle.engine_laws.proofs.PreparedRequests.{with_ok}
-use Rattle.engine_laws.proofs.ShownTokens.{MayShow, none_held, one_held, refused_value, into_err}
-use Rattle.engine_push.specs.Contents.{bytes_of, octet_stream, range_text, with_length, with_type, with_fields, with_content}
-use Rattle.engine_push.specs.declared.content.Content.{Content}
-use Rattle.engine_push.specs.declared.content.Content.TheVariants.{Nothing, Whole, Chunk, Document}
+use Rattle.request_laws.proofs.PreparedRequests.{with_ok}
+use Rattle.request_laws.proofs.ShownTokens.{MayShow, none_held, one_held, refused_value, into_err}
+use Rattle.push_rows.specs.Contents.{bytes_of, octet_stream, range_text, with_length, with_type, with_fields, with_content}
+use Rattle.push_rows.specs.declared.content.Content.{Content}
+use Rattle.push_rows.specs.declared.content.Content.TheVariants.{Nothing, Whole, Chunk, Document}
 
 -- ---- numbers are valid header values
 

@@ -34,15 +34,15 @@ use Rattle.engine_requests.specs.Requests.{request_of}
 use Rattle.engine_answers.specs.Answers.{is_success}
 use Rattle.engine_rows.specs.Rows.{Row, authorized}
 use Rattle.engine_rows.specs.TokenCauses.{LastIs}
-use Rattle.engine_laws.proofs.FaultCounts.{last_after}
-use Rattle.engine_laws.proofs.RequestConfinement.{request_method_is}
-use Rattle.engine_push.specs.Contents.{with_content}
-use Rattle.engine_push.specs.Locations.{resolved, location_of, located}
-use Rattle.engine_push.proofs.Endings.{NoRegistry, authorized_fine, Textual, made_textual, content_textual}
-use Rattle.engine_push.specs.Uploads.{unless_success, location_reply, location_after, sent}
-use Rattle.engine_push.specs.declared.content.Content.{Content}
+use Rattle.request_laws.proofs.FaultCounts.{last_after}
+use Rattle.request_laws.proofs.RequestConfinement.{request_method_is}
+use Rattle.push_rows.specs.Contents.{with_content}
+use Rattle.push_rows.specs.Locations.{resolved, location_of, located}
+use Rattle.push_rows.proofs.Endings.{NoRegistry, authorized_fine, Textual, made_textual, content_textual}
+use Rattle.push_rows.specs.Uploads.{unless_success, location_reply, location_after, sent}
+use Rattle.push_rows.specs.declared.content.Content.{Content}
 use Rattle.push_laws.proofs.PushedHeaders.{content_made}
-use Rattle.engine_push.specs.Causes.{AnsweredPush, Named, PushText, ShownBy, PushCause}
+use Rattle.push_rows.specs.Causes.{AnsweredPush, Named, PushText, ShownBy, PushCause}
 
 -- ---- which texts may be malformed URLs
 

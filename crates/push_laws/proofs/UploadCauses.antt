@@ -19,12 +19,12 @@ use Rattle.engine_terms.specs.declared.error.OciDistributionError.{OciDistributi
 use Rattle.engine_terms.specs.declared.error.OciDistributionError.TheVariants as refusal
 use Rattle.engine_requests.specs.Addresses.{uploads_text}
 use Rattle.engine_rows.specs.Rows.{Row}
-use Rattle.engine_push.specs.Calls.{push_chunked, not_empty, push_whole, is_violation, or_whole, push_blob, size_given, of_size, stream_whole, stream_sent, stream_chunked, push_blob_stream, response_of, push_blob_stream_chunked, mount_url, mount_blob}
-use Rattle.engine_push.specs.Uploads.{Sent, upload_begun, chunk_sent, upload_ended, chunks, chunks_sent, piece_of, next_piece, no_longer, unless_last, pieces_sent, pieces_read, all_read, sent}
-use Rattle.engine_push.specs.declared.content.Content.{Content}
-use Rattle.engine_push.specs.declared.content.Content.TheVariants.{Nothing, Whole, Chunk}
+use Rattle.push_rows.specs.Calls.{push_chunked, not_empty, push_whole, is_violation, or_whole, push_blob, size_given, of_size, stream_whole, stream_sent, stream_chunked, push_blob_stream, response_of, push_blob_stream_chunked, mount_url, mount_blob}
+use Rattle.push_rows.specs.Uploads.{Sent, upload_begun, chunk_sent, upload_ended, chunks, chunks_sent, piece_of, next_piece, no_longer, unless_last, pieces_sent, pieces_read, all_read, sent}
+use Rattle.push_rows.specs.declared.content.Content.{Content}
+use Rattle.push_rows.specs.declared.content.Content.TheVariants.{Nothing, Whole, Chunk}
 use Rattle.engine_terms.specs.declared.settings.Settings.{Settings}
-use Rattle.engine_push.specs.Causes.{of_upload, of_mount, Named, PushText, OfBytes, OfStream, OfNamedStream, OfNothing}
+use Rattle.push_rows.specs.Causes.{of_upload, of_mount, Named, PushText, OfBytes, OfStream, OfNamedStream, OfNothing}
 use Rattle.push_laws.proofs.RequestCauses.{Loose, Texts, call_texts, texts_after, cause_after, Shown, shown_next, shown_step, shown_done, url_shown, sent_shown}
 
 -- what holds for a larger set of texts holds for a smaller one

@@ -18,8 +18,8 @@ use Rattle.engine_rows.specs.Pulls.{fetch_manifest_digest, pull_manifest, pull_m
 use Rattle.engine_rows.specs.Image.{pull}
 use Rattle.engine_rows.specs.Referrers.{pull_referrers}
 use Rattle.engine_rows.specs.declared.image.ImageData.{ImageData}
-use Rattle.engine_publish.specs.Calls.{push}
-use Rattle.engine_publish.specs.declared.images.PushResponse.{PushResponse}
+use Rattle.push_rows.specs.Images.{push}
+use Rattle.push_rows.specs.declared.responses.PushResponse.{PushResponse}
 use Rattle.registry_cache.specs.Keys.{manifest_key, pull_key, referrers_key}
 use Rattle.registry_calls.specs.declared.error_context.Called.{Called}
 use Rattle.registry_calls.specs.declared.error_context.Called.TheVariants.{FetchManifest, Pull, PullManifest, Push}

@@ -14,7 +14,6 @@ ghost use Rattle.registry_calls.specs.Log.{DigestCall, ManifestCall, ImageCall, 
 ghost use Rattle.registry_calls.specs.Named.{is_named};
 
 use crate::error::SigstoreError;
-use engine_publish::PushResponse;
 use engine_rows::ImageData;
 use json_values::{Blob, Text};
 use oci_auth::RegistryAuth;
@@ -23,6 +22,7 @@ use oci_manifests::blob::Config;
 use oci_manifests::{ImageLayer, OciImageIndex, OciImageManifest, OciManifest};
 use oci_names::Reference;
 use oci_transport::Transport;
+use push_rows::PushResponse;
 use std::alloc::Global;
 
 /// The calls of a registry's client. Each performs one row of requests with a result, whatever it caches: a caching

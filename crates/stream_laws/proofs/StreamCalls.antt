@@ -17,11 +17,11 @@ use Rattle.engine_terms.specs.declared.error.OciDistributionError.TheVariants as
 use Rattle.engine_rows.specs.Causes.{BadHeader}
 use Rattle.engine_rows.specs.Confined.{Within}
 use Rattle.engine_rows.specs.Held.{pulling}
-use Rattle.engine_laws.proofs.CallConfinement.{call_within}
-use Rattle.engine_laws.proofs.FaultCounts.{failed_last, fault_last, refusal_both}
-use Rattle.engine_laws.proofs.HeaderCauses.{Sound}
-use Rattle.engine_laws.proofs.KeptTokens.{Keeps, keeps_first}
-use Rattle.engine_laws.proofs.ShownTokens.{Carries, Ended, safe_done, safe_next}
+use Rattle.request_laws.proofs.CallConfinement.{call_within}
+use Rattle.request_laws.proofs.FaultCounts.{failed_last, fault_last, refusal_both}
+use Rattle.request_laws.proofs.HeaderCauses.{Sound}
+use Rattle.request_laws.proofs.KeptTokens.{Keeps, keeps_first}
+use Rattle.request_laws.proofs.ShownTokens.{Carries, Ended, safe_done, safe_next}
 use Rattle.engine_streams.specs.Blobs.{opened, blob_stream, Response, by_digests, blob_stream_partial, opening_in, response_in}
 use Rattle.engine_streams.specs.declared.blobs.BlobResponse.{BlobResponse}
 use Rattle.engine_streams.specs.declared.head.Opening.{Opening}

@@ -38,15 +38,15 @@ use Rattle.engine_requests.specs.declared.sources.Place.TheVariants.{Web, Unfit}
 use Rattle.engine_rows.specs.Rows.{Row, prepared}
 use Rattle.engine_rows.specs.Causes.{Act, Reads, Sends, AsksText, UnfitUrl, BadHeader, LastAnswer, AnswerCause, AskedDigest, Claimed}
 use Rattle.engine_rows.specs.Held.{Entry, pulling}
-use Rattle.engine_laws.proofs.BlobCauses.{OfUrls, places_are, each_more, unfit_as, unfit_is, listed_own, not_expected}
-use Rattle.engine_laws.proofs.DocumentAnswers.{url_is}
-use Rattle.engine_laws.proofs.DocumentCauses.{asks_at, answer_cause, cause_later, early_cause, early_shown, header_refused, heard_answer, heard_failed, heard_long, status_cause, url_cause}
-use Rattle.engine_laws.proofs.EarlyCauses.{AnyValue, Loose, Early, request_early, prepared_causes}
-use Rattle.engine_laws.proofs.FaultCounts.{failed_last, fault_last, refusal_both}
-use Rattle.engine_laws.proofs.KeptTokens.{Keeps, keeps_first}
-use Rattle.engine_laws.proofs.OfferedPlaces.{EachPlace}
-use Rattle.engine_laws.proofs.PreparedRequests.{Prepared, into_ok}
-use Rattle.engine_laws.proofs.ShownTokens.{Carries, Ended, HeaderCause}
+use Rattle.request_laws.proofs.BlobCauses.{OfUrls, places_are, each_more, unfit_as, unfit_is, listed_own, not_expected}
+use Rattle.request_laws.proofs.DocumentAnswers.{url_is}
+use Rattle.request_laws.proofs.DocumentCauses.{asks_at, answer_cause, cause_later, early_cause, early_shown, header_refused, heard_answer, heard_failed, heard_long, status_cause, url_cause}
+use Rattle.request_laws.proofs.EarlyCauses.{AnyValue, Loose, Early, request_early, prepared_causes}
+use Rattle.request_laws.proofs.FaultCounts.{failed_last, fault_last, refusal_both}
+use Rattle.request_laws.proofs.KeptTokens.{Keeps, keeps_first}
+use Rattle.request_laws.proofs.OfferedPlaces.{EachPlace}
+use Rattle.request_laws.proofs.PreparedRequests.{Prepared, into_ok}
+use Rattle.request_laws.proofs.ShownTokens.{Carries, Ended, HeaderCause}
 use Rattle.engine_streams.specs.Head.{expected, given, opening, is_streamed}
 use Rattle.engine_streams.specs.Range.{onward_text, text_to, text_by, range_text, onward, with_range}
 use Rattle.engine_streams.specs.Blobs.{or_next, tried, opened}

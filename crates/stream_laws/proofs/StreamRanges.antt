@@ -22,8 +22,8 @@ use Rattle.engine_terms.specs.declared.error.GenericCause.TheVariants.{RangeOver
 use Rattle.engine_terms.specs.declared.error.OciDistributionError.{OciDistributionError}
 use Rattle.engine_terms.specs.declared.error.OciDistributionError.TheVariants as refusal
 use Rattle.engine_terms.specs.declared.settings.Settings.{Settings}
-use Rattle.engine_laws.proofs.PreparedRequests.{with_ok, accept_none, made_of}
-use Rattle.engine_laws.proofs.ShownTokens.{agent_entries, refused_value}
+use Rattle.request_laws.proofs.PreparedRequests.{with_ok, accept_none, made_of}
+use Rattle.request_laws.proofs.ShownTokens.{agent_entries, refused_value}
 use Rattle.json_values.specs.Decimals.{is_digit}
 use Rattle.engine_streams.specs.Range.{onward_text, text_to, text_by, range_text, onward}
 use Rattle.engine_streams.specs.declared.range.ByteRange.{ByteRange}

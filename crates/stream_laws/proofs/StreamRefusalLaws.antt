@@ -22,7 +22,7 @@ use Rattle.engine_terms.specs.declared.error.OciDistributionError.{OciDistributi
 use Rattle.engine_terms.specs.declared.error.OciDistributionError.TheVariants as refusal
 use Rattle.engine_rows.specs.Rows.{Row, prepared}
 use Rattle.engine_rows.specs.Causes.{IsEarly, HasBadHeader, IsRefusedAs}
-use Rattle.engine_laws.proofs.ExactRefusals.{Only, after_refusal, handed_on, no_url, url_first, early_on, prepared_bad, met_only, met_early}
+use Rattle.request_laws.proofs.ExactRefusals.{Only, after_refusal, handed_on, no_url, url_first, early_on, prepared_bad, met_only, met_early}
 use Rattle.engine_streams.specs.Range.{onward_text, text_to, text_by, range_text, with_range}
 use Rattle.engine_streams.specs.Blobs.{tried, opened, blob_stream, blob_stream_partial, opening_in, response_in, by_digests}
 use Rattle.engine_streams.specs.declared.blobs.BlobResponse.{BlobResponse}

@@ -34,12 +34,12 @@ use Rattle.engine_requests.specs.declared.sources.Place.TheVariants.{Web, Unfit}
 use Rattle.engine_rows.specs.Rows.{Row, authorized, prepared}
 use Rattle.engine_rows.specs.Confined.{ToRegistry, Each}
 use Rattle.engine_rows.specs.Held.{Entry, pulling}
-use Rattle.engine_laws.proofs.RequestConfinement.{SentValue, Sent, each_more}
-use Rattle.engine_laws.proofs.HeaderCauses.{Sound, place_ready}
-use Rattle.engine_laws.proofs.KeptTokens.{Keeps}
-use Rattle.engine_laws.proofs.PlainRefusals.{Plain, into_plain, refused_plain, digest_plain}
-use Rattle.engine_laws.proofs.PreparedRequests.{with_ok}
-use Rattle.engine_laws.proofs.ShownTokens.{Carries, Ended, Ready, safe_done, safe_next, safe_ready, safe_follow, prepared_safe, plain_step, plain_last, url_first}
+use Rattle.request_laws.proofs.RequestConfinement.{SentValue, Sent, each_more}
+use Rattle.request_laws.proofs.HeaderCauses.{Sound, place_ready}
+use Rattle.request_laws.proofs.KeptTokens.{Keeps}
+use Rattle.request_laws.proofs.PlainRefusals.{Plain, into_plain, refused_plain, digest_plain}
+use Rattle.request_laws.proofs.PreparedRequests.{with_ok}
+use Rattle.request_laws.proofs.ShownTokens.{Carries, Ended, Ready, safe_done, safe_next, safe_ready, safe_follow, prepared_safe, plain_step, plain_last, url_first}
 use Rattle.engine_streams.specs.Head.{expected, given, opening}
 use Rattle.engine_streams.specs.Range.{text_by, range_text, onward_text, onward, with_range}
 use Rattle.engine_streams.specs.Blobs.{or_next, tried, opened}

@@ -1,5 +1,5 @@
 use Rattle.std.proofs.Common.{◌≡◌, map, take}
-use Rattle.engine_publish.specs.Calls.{digest_of_entry}
+use Rattle.push_rows.specs.Images.{digest_of_entry}
 use Rattle.engine_publish.proofs.images.entry_digests.Given as goal
 
 abbrev pub invariant-loop-entry : goal.invariant-loop-entry

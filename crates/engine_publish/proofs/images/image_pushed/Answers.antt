@@ -1,6 +1,6 @@
 use Rattle.std.proofs.Common.{refl}
 use Rattle.engine_rows.proofs.Exits.{refused, and_then, done}
-use Rattle.engine_publish.specs.Calls.{image_pushed}
+use Rattle.push_rows.specs.Images.{image_pushed}
 use Rattle.engine_publish.proofs.images.image_pushed.Goals as goal
 
 pub returns-in_err-layers_pushed : goal.returns-in_err-layers_pushed

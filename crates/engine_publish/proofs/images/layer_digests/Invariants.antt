@@ -1,5 +1,5 @@
 use Rattle.std.proofs.Common.{◌≡◌, map, take}
-use Rattle.engine_publish.specs.Calls.{digest_of_layer}
+use Rattle.push_rows.specs.Images.{digest_of_layer}
 use Rattle.engine_publish.proofs.images.layer_digests.Given as goal
 
 abbrev pub invariant-loop-layer : goal.invariant-loop-layer

@@ -1,7 +1,7 @@
 use Rattle.std.proofs.Common.{length}
 use Rattle.engine_terms.specs.Contexts.{context_of}
 use Rattle.engine_push.proofs.Leads.{LeadsTo}
-use Rattle.engine_publish.specs.Calls.{layers_pushed}
+use Rattle.push_rows.specs.Images.{layers_pushed}
 use Rattle.engine_publish.proofs.images.layers_pushed.Given as goal
 
 -- the layers that were pushed lead to those that are left

@@ -1,5 +1,5 @@
 use Rattle.engine_rows.proofs.Exits.{wanting, and_then, passed_on, stores_as}
-use Rattle.engine_publish.specs.Calls.{push}
+use Rattle.push_rows.specs.Images.{push}
 use Rattle.engine_publish.proofs.images.push.Goals as goal
 
 pub returns-in_err-manifest : goal.returns-in_err-manifest

@@ -1,5 +1,5 @@
 use Rattle.engine_rows.proofs.Exits.{wanting, and_then, passed_on, stores_as}
-use Rattle.engine_publish.specs.Calls.{push_manifest_list}
+use Rattle.push_rows.specs.Images.{push_manifest_list}
 use Rattle.engine_publish.proofs.manifests.push_manifest_list.Goals as goal
 
 pub returns-in_err-document : goal.returns-in_err-document

@@ -1,6 +1,6 @@
 use Rattle.std.proofs.Common.{refl, sym, ◌∙◌}
 use Rattle.engine_rows.proofs.Exits.{refused, wanting, and_then, said}
-use Rattle.engine_publish.specs.Calls.{push_manifest_raw}
+use Rattle.push_rows.specs.Images.{push_manifest_raw}
 use Rattle.engine_publish.proofs.ManifestTree.{located_met, named_met, unnamed_met}
 use Rattle.engine_publish.proofs.manifests.push_manifest_raw.Goals as goal
 

@@ -1,5 +1,5 @@
 use Rattle.engine_rows.proofs.Exits.{refused, and_then, passed_on}
-use Rattle.engine_push.specs.Calls.{push_chunked}
+use Rattle.push_rows.specs.Calls.{push_chunked}
 use Rattle.engine_push.proofs.bytes.push_chunked.Goals as goal
 
 pub returns-in_err-location : goal.returns-in_err-location

@@ -1,6 +1,6 @@
 use Rattle.std.proofs.Common.{refl}
 use Rattle.engine_rows.proofs.Exits.{refused, wanting, and_then, passed_on}
-use Rattle.engine_push.specs.Calls.{push_whole}
+use Rattle.push_rows.specs.Calls.{push_whole}
 use Rattle.engine_push.proofs.CallTree.{none_given, some_given}
 use Rattle.engine_push.proofs.bytes.push_whole.Goals as goal
 

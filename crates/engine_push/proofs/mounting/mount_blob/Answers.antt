@@ -1,5 +1,5 @@
 use Rattle.engine_rows.proofs.Exits.{refused, wanting, and_then, said, done}
-use Rattle.engine_push.specs.Calls.{mount_blob}
+use Rattle.push_rows.specs.Calls.{mount_blob}
 use Rattle.engine_push.proofs.mounting.mount_blob.Goals as goal
 
 pub returns-in_err-uploads : goal.returns-in_err-uploads

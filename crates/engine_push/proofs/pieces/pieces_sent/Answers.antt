@@ -3,9 +3,9 @@ use Rattle.byte_streams.proofs.Springs.{Consumes-then}
 use Rattle.engine_steps.proofs.HelperTrees.{not_ok}
 use Rattle.oci_transport.specs.Pieces.{joined}
 use Rattle.engine_push.specs.Sources.{cuts}
-use Rattle.engine_push.specs.Uploads.{chunks}
-use Rattle.engine_push.proofs.Carried.{carries_front, front_behind_more, joined_both, joined_chunks}
-use Rattle.engine_push.proofs.Endings.{chunks_told}
+use Rattle.push_rows.specs.Uploads.{chunks}
+use Rattle.push_rows.proofs.Carried.{carries_front, front_behind_more, joined_both, joined_chunks}
+use Rattle.push_rows.proofs.Endings.{chunks_told}
 use Rattle.engine_push.proofs.PieceTree.{pumping_start, pump_refused, pump_longer, pump_ended, pump_cut, pumped, nil_of, all_taken, front_of_left, pushes_all, pushes_refused, err_is, no_piece_sent, took_more, step_sent, sent_behind, pump_bytes, cut_ended, cut_held, cut_part, cuts_refused}
 use Rattle.engine_push.proofs.pieces.pieces_sent.Goals as goal
 

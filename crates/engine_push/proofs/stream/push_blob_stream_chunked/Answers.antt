@@ -1,7 +1,7 @@
 use Rattle.std.proofs.Common.{refl, Some}
 use Rattle.engine_rows.proofs.Exits.{refused, wanting, and_then}
-use Rattle.engine_push.specs.Calls.{push_blob_stream_chunked}
-use Rattle.engine_push.proofs.Endings.{begun_told, ended_told}
+use Rattle.push_rows.specs.Calls.{push_blob_stream_chunked}
+use Rattle.push_rows.proofs.Endings.{begun_told, ended_told}
 use Rattle.engine_push.proofs.PieceTree.{none_of_left, pushes_refused, cuts_refused, err_is, step_source, step_behind, sent_source, sent_behind}
 use Rattle.engine_push.proofs.StreamTree.{ended_pushes, ended_refused, none_cut, begun_cut, all_cut, ended_cut, whole_cut, sent_refused, sent_met, sent_then, none_sent, some_sent, response_met, none_missing, took_none}
 use Rattle.oci_names.specs.declared.algorithm.Algorithm.TheVariants.{Sha256}

@@ -1,6 +1,6 @@
 use Rattle.engine_rows.proofs.Exits.{and_then, passed_on}
-use Rattle.engine_push.specs.Calls.{stream_chunked}
-use Rattle.engine_push.proofs.Endings.{begun_told, ended_told}
+use Rattle.push_rows.specs.Calls.{stream_chunked}
+use Rattle.push_rows.proofs.Endings.{begun_told, ended_told}
 use Rattle.engine_push.proofs.PieceTree.{none_of_left, pushes_refused, cuts_refused, err_is, step_sent, step_behind, sent_behind}
 use Rattle.engine_push.proofs.StreamTree.{ended_pushes, ended_refused, none_cut, begun_cut, ended_cut, whole_cut, sent_refused, sent_met, sent_then, some_sent}
 use Rattle.engine_push.proofs.stream.stream_chunked.Goals as goal

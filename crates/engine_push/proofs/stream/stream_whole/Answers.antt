@@ -1,8 +1,8 @@
 use Rattle.std.proofs.Common.{refl}
 use Rattle.engine_rows.proofs.Exits.{refused, and_then, done, passed_on}
-use Rattle.engine_push.specs.Calls.{stream_whole}
-use Rattle.engine_push.proofs.Carried.{carries_none, carries_front}
-use Rattle.engine_push.proofs.Endings.{begun_told, ended_told}
+use Rattle.push_rows.specs.Calls.{stream_whole}
+use Rattle.push_rows.proofs.Carried.{carries_none, carries_front}
+use Rattle.push_rows.proofs.Endings.{begun_told, ended_told}
 use Rattle.engine_push.proofs.PieceTree.{none_of_left, pushes_refused, err_is, step_source, step_behind, held_source}
 use Rattle.engine_push.proofs.StreamTree.{size_unknown, begun_pushes, held_pushes, none_joined, joined_refused, begun_joined, ended_joined}
 use Rattle.engine_push.proofs.CallTree.{size_refused, size_met}

@@ -1,7 +1,7 @@
 use Rattle.std.proofs.Common.{refl}
 use Rattle.engine_rows.proofs.Exits.{refused, and_then, said, passed_on}
-use Rattle.engine_push.specs.Uploads.{chunk_sent}
-use Rattle.engine_push.proofs.Carried.{carries_none, sends_nothing, sends_as}
+use Rattle.push_rows.specs.Uploads.{chunk_sent}
+use Rattle.push_rows.proofs.Carried.{carries_none, sends_nothing, sends_as}
 use Rattle.engine_push.proofs.uploads.chunk_sent.Goals as goal
 
 pub returns-in_err-url-clause-run : goal.returns-in_err-url-clause-run

@@ -1,5 +1,5 @@
 use Rattle.std.proofs.Common.{◌+◌, ap, arith, drop, length, refl, sym, take, ◌∙◌}
-use Rattle.engine_push.proofs.Carried.{sends_as}
+use Rattle.push_rows.proofs.Carried.{sends_as}
 use Rattle.engine_push.proofs.Leads.{chunking_start, chunking_wanting, chunking_front, chunking_refused, chunking_part, chunking_more, chunking_met, chunking_sent}
 use Rattle.engine_push.proofs.uploads.chunks_sent.Goals as goal
 

@@ -1,12 +1,12 @@
 use Rattle.std.proofs.Common.{ℕ, List, Result, Ok}
 use Rattle.engine_terms.specs.declared.error.OciDistributionError.{OciDistributionError}
-use Rattle.engine_push.specs.Contents.{bytes_of}
-use Rattle.engine_push.specs.PieceStates.{part}
+use Rattle.push_rows.specs.Contents.{bytes_of}
+use Rattle.push_rows.specs.PieceStates.{part}
 use Rattle.engine_rows.proofs.Exits.{refused, and_then, said, passed_on}
-use Rattle.engine_push.specs.Uploads.{sent}
-use Rattle.engine_push.proofs.Carried.{sends_behind, sends_nothing}
+use Rattle.push_rows.specs.Uploads.{sent}
+use Rattle.push_rows.proofs.Carried.{sends_behind, sends_nothing}
 use Rattle.engine_push.proofs.LocationTree.{location_sends, as_sent}
-use Rattle.engine_push.proofs.Quiet.{token_bodiless}
+use Rattle.push_rows.proofs.Quiet.{token_bodiless}
 use Rattle.engine_push.proofs.uploads.sent.Goals as goal
 
 pub returns-in_err-token-clause-run : goal.returns-in_err-token-clause-run

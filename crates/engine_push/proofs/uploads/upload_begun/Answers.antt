@@ -1,6 +1,6 @@
 use Rattle.engine_rows.proofs.Exits.{refused, and_then, said, passed_on}
-use Rattle.engine_push.specs.Uploads.{upload_begun}
-use Rattle.engine_push.proofs.Carried.{carries_none, sends_nothing, sends_as}
+use Rattle.push_rows.specs.Uploads.{upload_begun}
+use Rattle.push_rows.proofs.Carried.{carries_none, sends_nothing, sends_as}
 use Rattle.engine_push.proofs.uploads.upload_begun.Goals as goal
 
 pub returns-in_err-url-clause-run : goal.returns-in_err-url-clause-run

@@ -1,6 +1,6 @@
 use Rattle.engine_rows.proofs.Exits.{refused, wanting, and_then, said, passed_on}
-use Rattle.engine_push.specs.Uploads.{upload_ended}
-use Rattle.engine_push.proofs.Carried.{carries_none, sends_nothing, sends_as}
+use Rattle.push_rows.specs.Uploads.{upload_ended}
+use Rattle.push_rows.proofs.Carried.{carries_none, sends_nothing, sends_as}
 use Rattle.engine_push.proofs.uploads.upload_ended.Goals as goal
 
 pub returns-in_err-read-clause-run : goal.returns-in_err-read-clause-run

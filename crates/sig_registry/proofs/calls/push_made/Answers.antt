@@ -1,7 +1,7 @@
 use Rattle.std.proofs.Common.{◌⊎◌, inl, inr, ℕ, List}
 use Rattle.oci_engine.specs.Refusals.{ImagePushRefused}
 use Rattle.oci_transport.specs.declared.message.Exchange.{Exchange}
-use Rattle.engine_publish.specs.Calls.{push}
+use Rattle.push_rows.specs.Images.{push}
 use Rattle.engine_terms.specs.Contexts.{within}
 use Rattle.engine_terms.specs.declared.error.OciDistributionError.TheVariants as engine_refusal
 use Rattle.registry_calls.specs.Calls.{push_made}

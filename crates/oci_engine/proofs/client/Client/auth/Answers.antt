@@ -1,4 +1,4 @@
-use Rattle.engine_laws.proofs.CallConfinement.{given_confined}
+use Rattle.request_laws.proofs.CallConfinement.{given_confined}
 use Rattle.engine_terms.specs.Contexts.{within}
 use Rattle.engine_laws.proofs.TokenCauses.{token_reason, token_fault}
 use Rattle.oci_engine.proofs.client.Client.auth.Goals as goal

@@ -1,7 +1,7 @@
 use Rattle.engine_laws.proofs.CallResults.{digest_answered}
 use Rattle.engine_laws.proofs.CallCauses.{digest_reason, digest_fault}
-use Rattle.engine_laws.proofs.ExactRefusals.{digest_url, digest_bad, met_only, met_early}
-use Rattle.engine_laws.proofs.CallConfinement.{digest_confined}
+use Rattle.request_laws.proofs.ExactRefusals.{digest_url, digest_bad, met_only, met_early}
+use Rattle.request_laws.proofs.CallConfinement.{digest_confined}
 use Rattle.engine_terms.specs.Contexts.{within}
 use Rattle.oci_engine.proofs.client.Client.fetch_manifest_digest.Goals as goal
 

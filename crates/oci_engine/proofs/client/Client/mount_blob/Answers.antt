@@ -1,5 +1,5 @@
 use Rattle.engine_terms.specs.Contexts.{within}
-use Rattle.engine_laws.proofs.ExactRefusals.{met_only, met_early}
+use Rattle.request_laws.proofs.ExactRefusals.{met_only, met_early}
 use Rattle.push_laws.proofs.CallCauses.{mount_reason, mount_fault}
 use Rattle.push_laws.proofs.Confinement.{mount_confined}
 use Rattle.push_laws.proofs.EarlyPushes.{mount_url, mount_bad}

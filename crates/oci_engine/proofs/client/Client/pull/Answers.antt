@@ -1,6 +1,6 @@
 use Rattle.engine_laws.proofs.CallCauses.{image_reason, image_fault}
-use Rattle.engine_laws.proofs.ExactRefusals.{image_url, image_bad, met_only, met_early}
-use Rattle.engine_laws.proofs.CallConfinement.{image_confined}
+use Rattle.request_laws.proofs.ExactRefusals.{image_url, image_bad, met_only, met_early}
+use Rattle.request_laws.proofs.CallConfinement.{image_confined}
 use Rattle.engine_terms.specs.Contexts.{within}
 use Rattle.oci_engine.proofs.client.Client.pull.Goals as goal
 

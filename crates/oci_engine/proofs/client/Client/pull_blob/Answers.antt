@@ -1,8 +1,8 @@
 use Rattle.engine_rows.specs.Blobs.{IntoSink}
 use Rattle.engine_laws.proofs.CallResults.{blob_took}
 use Rattle.engine_laws.proofs.CallCauses.{spilled_reason, spilled_fault}
-use Rattle.engine_laws.proofs.ExactRefusals.{blob_url, blob_bad, spilled_only, spilled_early}
-use Rattle.engine_laws.proofs.CallConfinement.{spilled_confined}
+use Rattle.request_laws.proofs.ExactRefusals.{blob_url, blob_bad, spilled_only, spilled_early}
+use Rattle.request_laws.proofs.CallConfinement.{spilled_confined}
 use Rattle.engine_terms.specs.Contexts.{within}
 use Rattle.oci_engine.proofs.client.Client.pull_blob.Goals as goal
 

@@ -1,6 +1,6 @@
 use Rattle.engine_laws.proofs.CallCauses.{one_reason, one_fault}
-use Rattle.engine_laws.proofs.ExactRefusals.{one_url, one_bad, met_only, met_early}
-use Rattle.engine_laws.proofs.CallConfinement.{one_confined}
+use Rattle.request_laws.proofs.ExactRefusals.{one_url, one_bad, met_only, met_early}
+use Rattle.request_laws.proofs.CallConfinement.{one_confined}
 use Rattle.engine_terms.specs.Contexts.{within}
 use Rattle.oci_engine.proofs.client.Client.pull_image_manifest.Goals as goal
 

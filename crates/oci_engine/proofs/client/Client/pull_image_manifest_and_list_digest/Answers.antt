@@ -1,6 +1,6 @@
 use Rattle.engine_laws.proofs.CallCauses.{found_reason, found_fault}
-use Rattle.engine_laws.proofs.ExactRefusals.{found_url, found_bad, met_only, met_early}
-use Rattle.engine_laws.proofs.CallConfinement.{found_confined}
+use Rattle.request_laws.proofs.ExactRefusals.{found_url, found_bad, met_only, met_early}
+use Rattle.request_laws.proofs.CallConfinement.{found_confined}
 use Rattle.engine_terms.specs.Contexts.{within}
 use Rattle.oci_engine.proofs.client.Client.pull_image_manifest_and_list_digest.Goals as goal
 

@@ -1,6 +1,6 @@
 use Rattle.engine_laws.proofs.CallCauses.{manifest_reason, manifest_fault}
-use Rattle.engine_laws.proofs.ExactRefusals.{manifest_url, manifest_bad, met_only, met_early}
-use Rattle.engine_laws.proofs.CallConfinement.{manifest_confined}
+use Rattle.request_laws.proofs.ExactRefusals.{manifest_url, manifest_bad, met_only, met_early}
+use Rattle.request_laws.proofs.CallConfinement.{manifest_confined}
 use Rattle.engine_terms.specs.Contexts.{within}
 use Rattle.oci_engine.proofs.client.Client.pull_manifest.Goals as goal
 

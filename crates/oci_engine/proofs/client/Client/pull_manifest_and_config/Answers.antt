@@ -1,6 +1,6 @@
 use Rattle.engine_laws.proofs.CallCauses.{text_reason, text_fault}
-use Rattle.engine_laws.proofs.ExactRefusals.{text_url, text_bad, met_only, met_early}
-use Rattle.engine_laws.proofs.CallConfinement.{text_confined}
+use Rattle.request_laws.proofs.ExactRefusals.{text_url, text_bad, met_only, met_early}
+use Rattle.request_laws.proofs.CallConfinement.{text_confined}
 use Rattle.engine_terms.specs.Contexts.{within}
 use Rattle.oci_engine.proofs.client.Client.pull_manifest_and_config.Goals as goal
 

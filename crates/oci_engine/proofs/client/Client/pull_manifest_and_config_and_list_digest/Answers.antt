@@ -1,6 +1,6 @@
 use Rattle.engine_laws.proofs.CallCauses.{config_reason, config_fault}
-use Rattle.engine_laws.proofs.ExactRefusals.{config_url, config_bad, met_only, met_early}
-use Rattle.engine_laws.proofs.CallConfinement.{config_confined}
+use Rattle.request_laws.proofs.ExactRefusals.{config_url, config_bad, met_only, met_early}
+use Rattle.request_laws.proofs.CallConfinement.{config_confined}
 use Rattle.engine_terms.specs.Contexts.{within}
 use Rattle.oci_engine.proofs.client.Client.pull_manifest_and_config_and_list_digest.Goals as goal
 

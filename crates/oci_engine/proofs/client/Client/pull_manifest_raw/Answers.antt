@@ -2,8 +2,8 @@ use Rattle.std.proofs.Common.{◌∙◌}
 use Rattle.engine_rows.proofs.Exits.{wanting, passed_on}
 use Rattle.engine_laws.proofs.CallCauses.{listed_reason, raw_fault}
 use Rattle.engine_laws.proofs.CallResults.{raw_body, raw_named, raw_given}
-use Rattle.engine_laws.proofs.ExactRefusals.{raw_url, raw_bad, met_only, met_early, listed_met}
-use Rattle.engine_laws.proofs.CallConfinement.{raw_confined}
+use Rattle.request_laws.proofs.ExactRefusals.{raw_url, raw_bad, met_only, met_early, listed_met}
+use Rattle.request_laws.proofs.CallConfinement.{raw_confined}
 use Rattle.engine_terms.specs.Contexts.{within}
 use Rattle.oci_engine.proofs.client.Client.pull_manifest_raw.Goals as goal
 

@@ -2,7 +2,7 @@ use Rattle.std.specs.Prelude.{option_copied}
 use Rattle.engine_laws.proofs.ReferrersCauses.{referrers_reason, referrers_fault, no_digest}
 use Rattle.engine_laws.proofs.ReferrersConfinement.{referrers_confined}
 use Rattle.engine_laws.proofs.ReferrersRefusals.{referrers_no_url, referrers_bad, of_digest}
-use Rattle.engine_laws.proofs.ExactRefusals.{met_only, met_early}
+use Rattle.request_laws.proofs.ExactRefusals.{met_only, met_early}
 use Rattle.oci_names.specs.Reference.{digest_of}
 use Rattle.engine_terms.specs.Contexts.{within}
 use Rattle.oci_engine.proofs.client.Client.pull_referrers.Goals as goal

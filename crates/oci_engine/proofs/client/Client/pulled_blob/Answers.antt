@@ -1,8 +1,8 @@
 use Rattle.engine_rows.specs.Blobs.{IntoMemory}
 use Rattle.engine_laws.proofs.CallResults.{blob_body, blob_last, blob_named}
 use Rattle.engine_laws.proofs.CallCauses.{blob_reason, blob_fault}
-use Rattle.engine_laws.proofs.ExactRefusals.{blob_url, blob_bad, met_only, met_early}
-use Rattle.engine_laws.proofs.CallConfinement.{blob_confined}
+use Rattle.request_laws.proofs.ExactRefusals.{blob_url, blob_bad, met_only, met_early}
+use Rattle.request_laws.proofs.CallConfinement.{blob_confined}
 use Rattle.engine_terms.specs.Contexts.{within}
 use Rattle.oci_engine.proofs.client.Client.pulled_blob.Goals as goal
 

@@ -1,5 +1,5 @@
 use Rattle.engine_terms.specs.Contexts.{within}
-use Rattle.engine_laws.proofs.ExactRefusals.{met_only, met_early}
+use Rattle.request_laws.proofs.ExactRefusals.{met_only, met_early}
 use Rattle.publish_laws.proofs.EarlyPublishes.{image_url, image_bad}
 use Rattle.publish_laws.proofs.PublishedCalls.{image_reason, image_fault, image_confined}
 use Rattle.publish_laws.proofs.SentImages.{image_sends}

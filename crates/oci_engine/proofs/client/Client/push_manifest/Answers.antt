@@ -1,5 +1,5 @@
 use Rattle.engine_terms.specs.Contexts.{within}
-use Rattle.engine_laws.proofs.ExactRefusals.{met_only, met_early}
+use Rattle.request_laws.proofs.ExactRefusals.{met_only, met_early}
 use Rattle.publish_laws.proofs.EarlyPublishes.{raw_url, raw_bad}
 use Rattle.publish_laws.proofs.PublishedCalls.{raw_reason, raw_fault, raw_confined}
 use Rattle.publish_laws.proofs.SentDocuments.{raw_sends, raw_named}

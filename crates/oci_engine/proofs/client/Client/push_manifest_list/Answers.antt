@@ -1,5 +1,5 @@
 use Rattle.engine_terms.specs.Contexts.{within}
-use Rattle.engine_laws.proofs.ExactRefusals.{met_only, met_early}
+use Rattle.request_laws.proofs.ExactRefusals.{met_only, met_early}
 use Rattle.publish_laws.proofs.EarlyPublishes.{list_url, list_bad}
 use Rattle.publish_laws.proofs.PublishedCalls.{list_reason, list_fault, list_confined}
 use Rattle.publish_laws.proofs.SentDocuments.{list_sends, list_named}

@@ -15,10 +15,10 @@ use Rattle.engine_terms.specs.declared.error.OciDistributionError.TheVariants as
 use Rattle.oci_transport.specs.declared.message.Method.TheVariants.{Post}
 use Rattle.engine_requests.specs.Addresses.{uploads_text, url_read}
 use Rattle.engine_rows.specs.Rows.{Row}
-use Rattle.engine_push.specs.Uploads.{sent, upload_begun, upload_ended, chunks, chunks_sent}
-use Rattle.engine_push.specs.Uploads.{Sent, all_sent, all_read}
-use Rattle.engine_push.specs.declared.content.Content.TheVariants.{Nothing, Whole}
-use Rattle.engine_push.specs.declared.stream.PushBlobStreamChunkedResponse.{PushBlobStreamChunkedResponse}
+use Rattle.push_rows.specs.Uploads.{sent, upload_begun, upload_ended, chunks, chunks_sent}
+use Rattle.push_rows.specs.Uploads.{Sent, all_sent, all_read}
+use Rattle.push_rows.specs.declared.content.Content.TheVariants.{Nothing, Whole}
+use Rattle.push_rows.specs.declared.responses.PushBlobStreamChunkedResponse.{PushBlobStreamChunkedResponse}
 
 -- ---- bytes in memory
 

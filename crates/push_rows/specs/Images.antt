@@ -26,10 +26,10 @@ use Rattle.engine_terms.specs.declared.error.OciDistributionError.{OciDistributi
 use Rattle.engine_terms.specs.declared.error.OciDistributionError.TheVariants as refusal
 use Rattle.engine_requests.specs.Addresses.{manifest_name, manifest_text, url_read}
 use Rattle.engine_rows.specs.Rows.{Row, store}
-use Rattle.engine_push.specs.Calls.{push_blob}
-use Rattle.engine_push.specs.Uploads.{sent}
-use Rattle.engine_push.specs.declared.content.Content.TheVariants.{Document}
-use Rattle.engine_publish.specs.declared.images.PushResponse.{PushResponse}
+use Rattle.push_rows.specs.Calls.{push_blob}
+use Rattle.push_rows.specs.Uploads.{sent}
+use Rattle.push_rows.specs.declared.content.Content.TheVariants.{Document}
+use Rattle.push_rows.specs.declared.responses.PushResponse.{PushResponse}
 
 -- ---- manifests
 

@@ -32,7 +32,7 @@ use Rattle.engine_requests.specs.Requests.{with_header, with_accept, with_token,
 use Rattle.engine_rows.specs.Rows.{Row, passed_over, taken, token_step, token_asked, kept_or_asked, token_by, token_for, goes_to, token_where, authorized, prepared, store}
 use Rattle.engine_rows.specs.Blobs.{Destination}
 use Rattle.engine_rows.specs.Causes.{Act, Reads, Cause, BlobCause}
-use Rattle.engine_laws.proofs.PreparedRequests.{Prepared, prepared_shows}
+use Rattle.request_laws.proofs.PreparedRequests.{Prepared, prepared_shows}
 
 -- ---- causes, for any invalid header value
 

@@ -4,7 +4,7 @@ use Rattle.oci_transport.specs.Link.{Link}
 use Rattle.oci_transport.specs.declared.message.Answer.{Answer}
 use Rattle.oci_transport.specs.declared.message.Exchange.{Exchange}
 use Rattle.oci_protocol.specs.Runs.{Told}
-use Rattle.engine_push.specs.PieceStates.{part}
+use Rattle.push_rows.specs.PieceStates.{part}
 
 -- the bodies of the requests that have one, in order
 abbrev pub bodies : List Exchange → List (List ℕ)

@@ -21,8 +21,8 @@ use Rattle.engine_terms.specs.declared.settings.Settings.{Settings}
 use Rattle.engine_requests.specs.Requests.{with_accept, with_token, request_of}
 use Rattle.engine_rows.specs.Confined.{ToRegistry, MayCarry, Each, Confined}
 use Rattle.engine_rows.specs.Held.{Entry, IsHeld}
-use Rattle.engine_laws.proofs.KeptTokens.{held_more}
-use Rattle.engine_laws.proofs.PreparedRequests.{with_ok, made_of}
+use Rattle.request_laws.proofs.KeptTokens.{held_more}
+use Rattle.request_laws.proofs.PreparedRequests.{with_ok, made_of}
 
 pub each_more : (P Q : List ℕ → Type 0) (values : List (List ℕ)) → ((value : List ℕ) → P value → Q value) → Each P values → Each Q values
 each_more P Q [] more h = tt

@@ -37,7 +37,7 @@ use Rattle.engine_answers.specs.Answers.{accepted, refused_answer, or_digest_err
 use Rattle.engine_rows.specs.Rows.{store, whole, whole_reply, prepared}
 use Rattle.engine_rows.specs.Pulls.{manifest_document, document, pull_manifest_raw}
 use Rattle.engine_rows.specs.Answered.{OfTokenStep, Asks, LedTo, FirstAsked, Body, Document}
-use Rattle.engine_laws.proofs.PreparedRequests.{asks_of, into_ok, Silent, silent_store, Prepared, prepared_shows}
+use Rattle.request_laws.proofs.PreparedRequests.{asks_of, into_ok, Silent, silent_store, Prepared, prepared_shows}
 
 -- ---- conversations
 

@@ -8,10 +8,9 @@ use Rattle.oci_transport.specs.Pieces.{joined}
 use Rattle.oci_transport.specs.declared.message.Exchange.{Exchange}
 use Rattle.oci_protocol.specs.Runs.{Told}
 use Rattle.oci_protocol.proofs.Conversations.{Extends-none, Extends-more}
-use Rattle.engine_push.specs.Bodies.{bodies, IsPrefix, Sends}
-use Rattle.engine_push.specs.PieceStates.{part}
-use Rattle.engine_push.specs.Sources.{cuts}
-use Rattle.engine_push.specs.Uploads.{chunk_size, first_chunks, chunks}
+use Rattle.push_rows.specs.Bodies.{bodies, IsPrefix, Sends}
+use Rattle.push_rows.specs.PieceStates.{part}
+use Rattle.push_rows.specs.Uploads.{chunk_size, first_chunks, chunks}
 
 pub bodies_both : (c d : List Exchange) → bodies (c ++ d) ≡ bodies c ++ bodies d
 bodies_both [] d = refl
@@ -65,17 +64,6 @@ joined_first (suc n) (x ∷ xs) le = ap (λ rest. take chunk_size (x ∷ xs) ++ 
 
 pub joined_chunks : (bytes : List ℕ) → joined (chunks bytes) ≡ bytes
 joined_chunks bytes = joined_first (length bytes) bytes (omega arith)
-
-pub cuts_both : (a b : List (List ℕ)) → cuts (a ++ b) ≡ cuts a ++ cuts b
-cuts_both [] b = refl
-cuts_both (x ∷ a) b = ap (λ rest. chunks x ++ rest) (cuts_both a b) ∙ sym (append_assoc (chunks x) (cuts a) (cuts b))
-
-pub cuts_one : (pieces : List (List ℕ)) (piece : List ℕ) → cuts (pieces ++ piece ∷ []) ≡ cuts pieces ++ chunks piece
-cuts_one pieces piece = cuts_both pieces (piece ∷ []) ∙ ap (λ rest. cuts pieces ++ rest) (append-nil (chunks piece))
-
-pub joined_cuts : (pieces : List (List ℕ)) → joined (cuts pieces) ≡ joined pieces
-joined_cuts [] = refl
-joined_cuts (x ∷ pieces) = joined_both (chunks x) (cuts pieces) ∙ ap (λ bytes. bytes ++ joined (cuts pieces)) (joined_chunks x) ∙ ap (λ rest. x ++ rest) (joined_cuts pieces)
 
 -- ---- what was exposed
 

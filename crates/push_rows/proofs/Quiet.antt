@@ -35,8 +35,8 @@ use Rattle.engine_requests.specs.Tokens.{wanted, realm_url, realm_request, token
 use Rattle.engine_requests.specs.declared.tokens.Wanted.{Wanted}
 use Rattle.engine_requests.specs.declared.tokens.Wanted.TheVariants as wants
 use Rattle.engine_rows.specs.Rows.{Row, whole, whole_reply, head_after, head_reply, realm_asked, fetched, registry_asked, unasked_or_asked, token_step, with_kept, taken, passed_over, token_asked, kept_or_asked, token_by, token_for, goes_to, token_where, authorized}
-use Rattle.engine_push.specs.Bodies.{bodies}
-use Rattle.engine_push.specs.PieceStates.{part}
+use Rattle.push_rows.specs.Bodies.{bodies}
+use Rattle.push_rows.specs.PieceStates.{part}
 
 -- a request that is built from a URL has no body
 pub made_bodiless : (s : Settings) (method : Method) (url : Parts) (types : Option (List ℕ)) (token : Option RegistryTokenType) (request : Request) → request_of s method url types token ≡ Ok request → request.body ≡ []

@@ -18,8 +18,8 @@ use Rattle.engine_terms.specs.declared.error.OciDistributionError.{OciDistributi
 use Rattle.engine_terms.specs.declared.settings.Settings.{Settings}
 use Rattle.engine_answers.specs.Answers.{is_success}
 use Rattle.engine_rows.specs.TokenCauses.{LastIs, WithAnswer}
-use Rattle.engine_push.specs.Bodies.{bodies, IsPrefix}
-use Rattle.engine_push.specs.Causes.{of_upload, IsPushed, Named}
+use Rattle.push_rows.specs.Bodies.{bodies, IsPrefix}
+use Rattle.push_rows.specs.Causes.{of_upload, IsPushed, Named}
 
 -- ---- a manifest
 

@@ -13,7 +13,7 @@ use Rattle.engine_terms.specs.declared.settings.Settings.{Settings}
 use Rattle.engine_requests.specs.Addresses.{registry_text, manifest_text}
 use Rattle.engine_rows.specs.Causes.{BadHeader}
 use Rattle.engine_rows.specs.Held.{Entry}
-use Rattle.engine_push.specs.Causes.{of_upload, PushText, PushCause, OfNothing}
+use Rattle.push_rows.specs.Causes.{of_upload, PushText, PushCause, OfNothing}
 
 -- the request of a manifest, and the status that it expects
 abbrev pub of_manifest : Method → Option ℕ

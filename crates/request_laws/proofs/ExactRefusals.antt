@@ -36,7 +36,7 @@ use Rattle.engine_rows.specs.Pulls.{document, digest_by, manifest_document, pull
 use Rattle.engine_rows.specs.Image.{pull}
 use Rattle.engine_rows.specs.Manifests.{pull_image_manifest_and_list_digest, pull_image_manifest, pull_manifest_and_config_and_list_digest, pull_manifest_and_config}
 use Rattle.engine_rows.specs.Causes.{Act, IsEarly, IsEarlyRefusal, HasBadHeader, IsRefusedAs}
-use Rattle.engine_laws.proofs.EarlyCauses.{Early, EarlyCause, authorized_early}
+use Rattle.request_laws.proofs.EarlyCauses.{Early, EarlyCause, authorized_early}
 
 -- ---- a malformed URL
 

@@ -38,11 +38,11 @@ use Rattle.engine_answers.specs.Answers.{is_success, is_client_error, envelope_i
 use Rattle.engine_rows.specs.Rows.{Row, store, whole, whole_reply, prepared}
 use Rattle.engine_rows.specs.Pulls.{document, manifest_document, pull_manifest_raw}
 use Rattle.engine_rows.specs.Causes.{Act, Reads, Sends, AsksAt, ManifestUrl, LastAsked, LastAnswer, LastFailed, LastTooLong, IsClientError, DigestCause, AnswerCause, ByLast, OwnDigest}
-use Rattle.engine_laws.proofs.EarlyCauses.{Loose}
-use Rattle.engine_laws.proofs.PreparedRequests.{asks_of, Prepared}
-use Rattle.engine_laws.proofs.DocumentAnswers.{accepted_is, url_is}
-use Rattle.engine_laws.proofs.DigestErrors.{header_cause, digest_err, validated_cause}
-use Rattle.engine_laws.proofs.EarlyCauses.{EarlyCause, Early, read_early, prepared_causes, store_causes}
+use Rattle.request_laws.proofs.EarlyCauses.{Loose}
+use Rattle.request_laws.proofs.PreparedRequests.{asks_of, Prepared}
+use Rattle.request_laws.proofs.DocumentAnswers.{accepted_is, url_is}
+use Rattle.request_laws.proofs.DigestErrors.{header_cause, digest_err, validated_cause}
+use Rattle.request_laws.proofs.EarlyCauses.{EarlyCause, Early, read_early, prepared_causes, store_causes}
 
 -- ---- the last exchange
 

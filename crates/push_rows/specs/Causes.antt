@@ -19,7 +19,7 @@ use Rattle.engine_answers.specs.Answers.{is_success}
 use Rattle.engine_rows.specs.Causes.{HasBadToken}
 use Rattle.engine_rows.specs.Held.{Entry}
 use Rattle.engine_rows.specs.TokenCauses.{LastIs}
-use Rattle.engine_push.specs.Locations.{resolved}
+use Rattle.push_rows.specs.Locations.{resolved}
 
 -- ---- the requests of a push, and the status that each expects
 

@@ -41,7 +41,7 @@ use Rattle.engine_requests.specs.Addresses.{url_or, url_read, base_text, registr
 use Rattle.engine_requests.specs.Requests.{with_header, with_accept, with_token, headers_of, request_of, bare_request}
 use Rattle.engine_requests.specs.Tokens.{wanted, realm_request, token_read}
 use Rattle.engine_rows.specs.Rows.{Row, store, whole_reply, whole, head_reply, head_after, realm_asked, fetched, registry_asked, unasked_or_asked, token_step, passed_over, taken, token_asked, kept_or_asked, token_by, token_for, goes_to, token_where, authorized, prepared}
-use Rattle.engine_laws.proofs.PlainRefusals.{IsPlain, Plain}
+use Rattle.request_laws.proofs.PlainRefusals.{IsPlain, Plain}
 use Rattle.oci_transport.specs.Urls.{targets}
 use Rattle.oci_transport.specs.declared.message.Answer.{Answer}
 use Rattle.oci_transport.specs.Link.{answer_of}
@@ -49,11 +49,11 @@ use Rattle.oci_protocol.specs.Runs.{head_part}
 use Rattle.engine_requests.specs.Tokens.{realm_url}
 use Rattle.engine_rows.specs.Held.{Entry, IsAuth, GivenIn, IsHeld}
 use Rattle.engine_rows.specs.Confined.{ToRealm, MayCarry, Each, Confined}
-use Rattle.engine_laws.proofs.RequestConfinement.{values_by, request_values, request_url_is, request_method_is, SentValue, Sent, sent_confined, sent_moves}
-use Rattle.engine_laws.proofs.SafeMore.{Safe-more}
+use Rattle.request_laws.proofs.RequestConfinement.{values_by, request_values, request_url_is, request_method_is, SentValue, Sent, sent_confined, sent_moves}
+use Rattle.request_laws.proofs.SafeMore.{Safe-more}
 use Rattle.engine_rows.specs.Causes.{HasBadHeader, HasBadToken, BadHeader}
-use Rattle.engine_laws.proofs.PreparedRequests.{with_ok, accept_none}
-use Rattle.engine_laws.proofs.KeptTokens.{Keeps, keeps_more, keeps_stored, keeps_kept}
+use Rattle.request_laws.proofs.PreparedRequests.{with_ok, accept_none}
+use Rattle.request_laws.proofs.KeptTokens.{Keeps, keeps_more, keeps_stored, keeps_kept}
 
 -- ---- there are few fields
 

@@ -30,10 +30,10 @@ use Rattle.engine_rows.specs.Image.{pull}
 use Rattle.engine_rows.specs.declared.image.ImageData.{ImageData}
 use Rattle.engine_rows.specs.Confined.{Confined, Within}
 use Rattle.engine_rows.specs.Held.{Entry, pulling, asking}
-use Rattle.engine_laws.proofs.KeptTokens.{Keeps, keeps_first, keeps_more, keeps_kept}
-use Rattle.engine_laws.proofs.SafeKeeps.{Meets-within}
-use Rattle.engine_laws.proofs.ShownTokens.{Carries, Ended, Asked, store_safe, step_safe}
-use Rattle.engine_laws.proofs.HeaderCauses.{digest_sound, raw_sound, manifest_sound, found_sound, one_sound, config_sound, text_sound, image_sound, blob_sound}
+use Rattle.request_laws.proofs.KeptTokens.{Keeps, keeps_first, keeps_more, keeps_kept}
+use Rattle.request_laws.proofs.SafeKeeps.{Meets-within}
+use Rattle.request_laws.proofs.ShownTokens.{Carries, Ended, Asked, store_safe, step_safe}
+use Rattle.request_laws.proofs.HeaderCauses.{digest_sound, raw_sound, manifest_sound, found_sound, one_sound, config_sound, text_sound, image_sound, blob_sound}
 
 pub call_within : {A : Type 0} (x : Entry) (s : Settings) (Q : AuthState → List Exchange → Result A OciDistributionError → Type 0) (l : AuthState) {p : Row A} {old new : Link} {r : Result A OciDistributionError} → Safe (Carries x s) (Keeps x) Q x.kept [] p → Meets is_memory p old new x.kept l r → Told (Within x s l) old new
 call_within x s Q l h met = Meets-within (Confined x s) (Keeps x) Q (Within x s l) (keeps_more x) (keeps_first x) (λ c confined keeps. record { confined = confined; kept = keeps.added; stored = keeps.stored }) h met

@@ -41,12 +41,12 @@ use Rattle.engine_requests.specs.Addresses.{registry_text, uploads_text, url_or,
 use Rattle.engine_requests.specs.Requests.{with_header, with_accept, with_token, headers_of, request_of}
 use Rattle.engine_rows.specs.Rows.{Row, token_step, passed_over, taken, token_asked, kept_or_asked, token_by, token_for, goes_to, token_where, authorized}
 use Rattle.engine_answers.specs.Answers.{is_success}
-use Rattle.engine_push.specs.Bodies.{LastLong}
-use Rattle.engine_push.specs.Contents.{range_text, octet_stream, with_length, with_type, with_content, with_fields}
-use Rattle.engine_push.specs.Locations.{resolved, location_of, located}
-use Rattle.engine_push.specs.Uploads.{unless_success, location_reply, location_after, sent, upload_begun, chunk_sent, upload_ended, chunks_sent}
-use Rattle.engine_push.specs.declared.content.Content.{Content}
-use Rattle.engine_push.specs.declared.content.Content.TheVariants.{Nothing, Whole, Chunk, Document}
+use Rattle.push_rows.specs.Bodies.{LastLong}
+use Rattle.push_rows.specs.Contents.{range_text, octet_stream, with_length, with_type, with_content, with_fields}
+use Rattle.push_rows.specs.Locations.{resolved, location_of, located}
+use Rattle.push_rows.specs.Uploads.{unless_success, location_reply, location_after, sent, upload_begun, chunk_sent, upload_ended, chunks_sent}
+use Rattle.push_rows.specs.declared.content.Content.{Content}
+use Rattle.push_rows.specs.declared.content.Content.TheVariants.{Nothing, Whole, Chunk, Document}
 
 -- ---- the token step
 

@@ -49,13 +49,13 @@ use Rattle.engine_rows.specs.Manifests.{pull_entry, manifest_by, pull_image_mani
 use Rattle.engine_rows.specs.Image.{layers_accepted, layer_of, pull_layers, pull}
 use Rattle.oci_manifests.specs.declared.document.OciManifest.{OciManifest}
 use Rattle.oci_manifests.specs.declared.document.OciManifest.TheVariants.{Image, ImageIndex}
-use Rattle.engine_laws.proofs.PlainRefusals.{Plain, into_plain, refused_plain, accepted_plain, digest_plain, found_plain, read_document_plain, meant_plain, entry_plain, config_plain, layers_plain}
+use Rattle.request_laws.proofs.PlainRefusals.{Plain, into_plain, refused_plain, accepted_plain, digest_plain, found_plain, read_document_plain, meant_plain, entry_plain, config_plain, layers_plain}
 use Rattle.engine_rows.specs.Held.{Entry, pulling}
-use Rattle.engine_laws.proofs.KeptTokens.{Keeps}
-use Rattle.engine_laws.proofs.SafeMore.{Safe-map}
-use Rattle.engine_laws.proofs.RequestConfinement.{Sent, each_more}
+use Rattle.request_laws.proofs.KeptTokens.{Keeps}
+use Rattle.request_laws.proofs.SafeMore.{Safe-map}
+use Rattle.request_laws.proofs.RequestConfinement.{Sent, each_more}
 use Rattle.engine_rows.specs.Confined.{ToRegistry, ToRealm, MayCarry}
-use Rattle.engine_laws.proofs.ShownTokens.{Carries, HeaderCause, Ended, Ready, request_ready, safe_done, safe_next, safe_ready, safe_follow, prepared_safe, store_safe, plain_step, plain_last, url_first}
+use Rattle.request_laws.proofs.ShownTokens.{Carries, HeaderCause, Ended, Ready, request_ready, safe_done, safe_next, safe_ready, safe_follow, prepared_safe, store_safe, plain_step, plain_last, url_first}
 
 -- the protocol is safe, and its refusals have their causes
 abbrev pub Sound : Entry → Settings → List ℕ → {A : Type 0} → AuthState → List Exchange → Row A → Type 0

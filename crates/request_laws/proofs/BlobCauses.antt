@@ -45,13 +45,13 @@ use Rattle.engine_rows.specs.Blobs.{Destination, IntoSink, IntoMemory, reading_b
 use Rattle.engine_rows.specs.Offers.{tried}
 use Rattle.engine_rows.specs.Pulls.{blob_to}
 use Rattle.engine_rows.specs.Causes.{Act, Reads, Sends, UnfitUrl, AsksListed, BlobUrl, SinkMayFail, LastAnswer, Claimed, DigestCause, AnswerCause, AskedDigest}
-use Rattle.engine_laws.proofs.EarlyCauses.{Loose, LooseBlob}
-use Rattle.engine_laws.proofs.PreparedRequests.{asks_of, Prepared}
-use Rattle.engine_laws.proofs.DigestErrors.{name_cause, name_claimed, differs_claimed, header_cause}
-use Rattle.engine_laws.proofs.EarlyCauses.{EarlyCause, Early, request_early, prepared_causes}
-use Rattle.engine_laws.proofs.OfferedPlaces.{EachPlace, Unasked, Gives, tried_law}
-use Rattle.engine_laws.proofs.DocumentAnswers.{url_is}
-use Rattle.engine_laws.proofs.DocumentCauses.{asks_at, answer_cause, cause_later, early_cause, status_cause, heard_answer, heard_failed, heard_long, url_cause}
+use Rattle.request_laws.proofs.EarlyCauses.{Loose, LooseBlob}
+use Rattle.request_laws.proofs.PreparedRequests.{asks_of, Prepared}
+use Rattle.request_laws.proofs.DigestErrors.{name_cause, name_claimed, differs_claimed, header_cause}
+use Rattle.request_laws.proofs.EarlyCauses.{EarlyCause, Early, request_early, prepared_causes}
+use Rattle.request_laws.proofs.OfferedPlaces.{EachPlace, Unasked, Gives, tried_law}
+use Rattle.request_laws.proofs.DocumentAnswers.{url_is}
+use Rattle.request_laws.proofs.DocumentCauses.{asks_at, answer_cause, cause_later, early_cause, status_cause, heard_answer, heard_failed, heard_long, url_cause}
 
 -- ---- what a plan implies about the response
 

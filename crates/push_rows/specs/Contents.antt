@@ -5,8 +5,8 @@ use Rattle.oci_transport.specs.declared.message.Request.{Request}
 use Rattle.engine_terms.specs.declared.error.OciDistributionError.{OciDistributionError}
 use Rattle.json_values.specs.Refusals.{◌>>=◌}
 use Rattle.engine_requests.specs.Requests.{with_header}
-use Rattle.engine_push.specs.declared.content.Content.{Content}
-use Rattle.engine_push.specs.declared.content.Content.TheVariants.{Nothing, Whole, Chunk, Document}
+use Rattle.push_rows.specs.declared.content.Content.{Content}
+use Rattle.push_rows.specs.declared.content.Content.TheVariants.{Nothing, Whole, Chunk, Document}
 
 -- the bytes
 abbrev pub bytes_of : Content → List ℕ

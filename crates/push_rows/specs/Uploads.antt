@@ -21,10 +21,10 @@ use Rattle.engine_requests.specs.Addresses.{uploads_text, url_read}
 use Rattle.engine_requests.specs.Requests.{request_of}
 use Rattle.engine_answers.specs.Answers.{is_success}
 use Rattle.engine_rows.specs.Rows.{Row, authorized}
-use Rattle.engine_push.specs.Contents.{with_content}
-use Rattle.engine_push.specs.Locations.{located}
-use Rattle.engine_push.specs.declared.content.Content.{Content}
-use Rattle.engine_push.specs.declared.content.Content.TheVariants.{Nothing, Chunk}
+use Rattle.push_rows.specs.Contents.{with_content}
+use Rattle.push_rows.specs.Locations.{located}
+use Rattle.push_rows.specs.declared.content.Content.{Content}
+use Rattle.push_rows.specs.declared.content.Content.TheVariants.{Nothing, Chunk}
 
 -- ---- one request
 

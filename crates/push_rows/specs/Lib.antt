@@ -1,0 +1,10 @@
+pub mod Bodies
+pub mod Calls
+pub mod Causes
+pub mod Contents
+pub mod ImageCauses
+pub mod Images
+pub mod Locations
+pub mod PieceStates
+pub mod Sent
+pub mod Uploads

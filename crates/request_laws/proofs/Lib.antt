@@ -1,0 +1,17 @@
+pub mod BlobCauses
+pub mod CallConfinement
+pub mod DigestErrors
+pub mod DocumentAnswers
+pub mod DocumentCauses
+pub mod EarlyCauses
+pub mod ExactRefusals
+pub mod FaultCounts
+pub mod HeaderCauses
+pub mod KeptTokens
+pub mod OfferedPlaces
+pub mod PlainRefusals
+pub mod PreparedRequests
+pub mod RequestConfinement
+pub mod SafeKeeps
+pub mod SafeMore
+pub mod ShownTokens
