@@ -1,3 +1,4 @@
+pub mod Defaults
 pub mod MediaTypes
 pub mod Names
 pub mod Numbers

@@ -3,4 +3,4 @@
 
 mod texts;
 
-pub use texts::{media_types_are_these, names_are_these, numbers_are_these};
+pub use texts::{defaults_are_these, media_types_are_these, names_are_these, numbers_are_these};

@@ -1,4 +1,5 @@
 // What constants are, as contracts of functions that do nothing.
+ghost use Rattle.constant_texts.specs.Defaults.{AddressesAre, ChunksAre, ClientDefaultsAre};
 ghost use Rattle.constant_texts.specs.MediaTypes.{AcceptedAre, LayerTypesAre, MediaTypesAre};
 ghost use Rattle.constant_texts.specs.Names.{AnnotationNamesAre, HeaderNamesAre, PlatformNamesAre};
 ghost use Rattle.constant_texts.specs.Numbers.{KeyParametersAre, LimitsAre};
@@ -21,4 +22,11 @@ pub fn names_are_these()
 pub fn numbers_are_these()
     ensures limits { LimitsAre }
     ensures keys { KeyParametersAre }
+{}
+
+/// States the defaults of the registry client, the size of a chunk, and the addresses of Rekor and Fulcio.
+pub fn defaults_are_these()
+    ensures client { ClientDefaultsAre }
+    ensures chunks { ChunksAre }
+    ensures addresses { AddressesAre }
 {}
