@@ -1,11 +1,12 @@
 #!/usr/bin/python3
 """Pushes a small image by the program `live_pushes` to a real registry on this machine, over a host of its own that opens the connections, and reads back
-with skopeo what the registry has then.
+with skopeo what the registry has then, and the signature that was pushed with `roksnaep verify`.
 
     tests/pushes.py [--program FILE] [--record] [-v] [PART OF A NAME ..]
 
-It needs docker-registry and skopeo (Debian's packages), and the program as it was built here. Each case is a function, which tests/live runs too. --record
-writes the expected output of live_pushes anew: the frames of a push to a plain registry, to which the program speaks as `localhost:5000` whatever its port is.
+It needs docker-registry, openssl and skopeo (Debian's packages), the program as it was built here, and a core that was built here, or the released one. Each case
+is a function, which tests/live runs too. --record writes the expected output of live_pushes anew: the frames of a push to a plain registry, to which the program
+speaks as `localhost:5000` whatever its port is.
 """
 import argparse
 import base64
@@ -25,13 +26,17 @@ from pathlib import Path
 sys.dont_write_bytecode = True
 TOP = Path(__file__).resolve().parent.parent
 sys.path[:0] = [str(TOP / "tests")]
-from registry import HASH, MANIFEST, Registry, Skipped, asked, digest_of, door, json_token, ran  # noqa: E402
+from registry import (HASH, MANIFEST, PAYLOAD, SIGNATURE, Registry, Skipped, asked, digest_of, door, ephemeral, json_token, payload_of, ran,  # noqa: E402
+                      signature_of)
 
 FOLDER = TOP / "crates/live_pushes"
 # what the program calls the registry, whatever its port is
 NAME = "localhost:5000"
 LAYERS = [b"the first layer\n", b"the second layer\n"]
 ABSENT = "sha256:" + "0" * 64
+# of the manifest that is pushed as bytes, and what the program writes as its payload: compact, with the members in cosign's order
+DIGEST = "sha256:7138bf8f7050a9cf808bf5c08bc9a905014df62e4a8f8026cdced10da97d8d80"
+SIGNED = json.dumps(json.loads(payload_of(NAME, "app", DIGEST)), separators=(",", ":")).encode()
 MOMENT = 1700000000
 # headers of a connection or of its time, which are not of the answer
 DROPPED = ("connection", "transfer-encoding", "date")
@@ -43,10 +48,11 @@ DROPPED = ("connection", "transfer-encoding", "date")
 class Pushes:
     """A run of the program: what it asked for, what it said at the end, and the bytes of both streams."""
 
-    def __init__(self, place, auth="anonymous", tls=None, before=lambda frame: None):
+    def __init__(self, place, auth="anonymous", tls=None, before=lambda frame: None, signature="c2lnMQ=="):
         self.place, self.tls, self.before = place, tls, before
         self.sent, self.received, self.requests, self.body, self.lines = bytearray(), bytearray(), [], b"", []
-        self.settings = {"frame": "settings", "reference": f"{NAME}/app:v1", "other": f"{NAME}/mirror:v1", "protocol": "http", "auth": auth, "moment": MOMENT}
+        self.settings = {"frame": "settings", "reference": f"{NAME}/app:v1", "other": f"{NAME}/mirror:v1", "protocol": "http", "auth": auth, "moment": MOMENT,
+                         "signature": signature}
         program = os.environ.get("LIVE_PUSHES") or FOLDER / "out/live_pushes"
         if not Path(program).is_file():
             raise Skipped("live_pushes is not built (cd crates/live_pushes && rt run < stdin)")
@@ -124,10 +130,27 @@ def skopeo(command, place, name, *words, credentials=None):
     return ran("skopeo", command, *flags, unchecked, *given, f"docker://{place}/{name}", *words)
 
 
+def sees_signature(pushes, place, manifest, credentials):
+    """The registry has the payload, the configuration and their manifest, under the tag of the signatures of the digest."""
+    tag = DIGEST.replace(":", "-") + ".sig"
+    where = f"http://{NAME}/v2/app"
+    assert pushes.told("signature") == [[f"{where}/blobs/{digest_of(b'{}')}", f"{where}/manifests/{digest_of(manifest)}"]], pushes.lines
+    assert SIGNED in [content for method, _, _, content in pushes.requests if method == "PATCH"]
+    [layer] = json.loads(manifest)["layers"]
+    assert (layer["mediaType"], layer["digest"], layer["annotations"]) == (PAYLOAD, digest_of(SIGNED), {SIGNATURE: pushes.settings["signature"]}), layer
+    assert skopeo("inspect", place, f"app:{tag}", credentials=credentials) == manifest
+
+
+def verified(live, place, public):
+    """What `roksnaep verify` says of the image by this key."""
+    environment = getattr(live, "environment", os.environ)
+    return ran(TOP / "bin/roksnaep", "verify", f"{place}/app:v1", "--key", public, env=environment).decode()
+
+
 def sees(pushes, place, folder, credentials=None):
     """The registry has what the program pushed, and the program said so."""
     assert pushes.status == 0, (pushes.status, pushes.lines)
-    built, kept, _ = pushes.bodies("/manifests/")
+    built, kept, signatures, _ = pushes.bodies("/manifests/")
     blobs = [*LAYERS, next(content for method, _, _, content in pushes.requests if content.startswith(b'{"architecture"'))]
     digests = [digest_of(content) for content in blobs]
     where = f"http://{NAME}/v2/app"
@@ -136,10 +159,11 @@ def sees(pushes, place, folder, credentials=None):
     there = [[digest, "is", "there"] for digest in digests]
     assert pushes.told("blob") == [*there, [ABSENT, "is", "not", "there"], *there], pushes.lines
     assert pushes.told("tag") == [["app", "v1"]], pushes.lines
+    sees_signature(pushes, place, signatures, credentials)
     assert pushes.told("mount") == [["refused", "SpecViolationError"], *([digest] for digest in digests)], pushes.lines
     [[refused, kind, status, size]] = pushes.told("index")
     assert (refused, kind, status) == ("refused", "ServerError", "400") and int(size) > 0, pushes.lines
-    assert skopeo("inspect", place, "app:v1", credentials=credentials) == kept
+    assert skopeo("inspect", place, "app:v1", credentials=credentials) == kept and digest_of(kept) == DIGEST
     assert json.loads(kept) == json.loads(built) | {"mediaType": MANIFEST} and kept.startswith(b"{\n  ")
     assert skopeo("inspect", place, f"app@{digest_of(built)}", credentials=credentials) == built
     skopeo("copy", place, "app:v1", f"dir:{folder}", credentials=credentials)
@@ -160,7 +184,11 @@ def registry_in(folder, auth=""):
 def pushes_an_image(live):
     folder = live.folder / "pushes"
     with registry_in(folder) as registry:
-        pushes = sees(Pushes(registry.place), registry.place, folder / "copy")
+        key, public = ephemeral(folder, "signer")
+        pushes = sees(Pushes(registry.place, signature=signature_of(key, SIGNED)[SIGNATURE]), registry.place, folder / "copy")
+        assert DIGEST in verified(live, registry.place, public)
+        _, other = ephemeral(folder, "other")
+        assert subprocess.run([TOP / "bin/roksnaep", "verify", f"{registry.place}/app:v1", "--key", other], capture_output=True).returncode == 1
         for digest in (digest_of(content) for content in LAYERS):
             assert asked(registry.place, "HEAD", f"/v2/mirror/blobs/{digest}")[0].status == 200
     return "\n    ".join(pushes.lines)

@@ -1,8 +1,9 @@
 // The calls, each with its line.
 use crate::image::{ABSENT, BLOBS, MANIFEST, MANIFEST_TYPE, config, index, layers};
-use crate::lines::{line, refused};
-use crate::settings::{PushSettings, Target};
-use json_values::{Blob, List, Text};
+use crate::lines::{line, refused, signature_line};
+use crate::settings::Target;
+use crate::signature::push_signed;
+use json_values::{Blob, Copied, List, Text};
 use oci_engine::{Client, ClientConfig, OciDistributionError};
 use oci_transport::Transport;
 use std::alloc::{AllocError, Global};
@@ -16,15 +17,14 @@ pub struct Calls<T> {
     out: Blob,
 }
 
-/// Returns a new client with these settings over the transport.
+/// Returns a new client with the target's protocol over the transport.
 pub fn calls_of<T: Transport + Drop>(
     alloc: Global,
-    settings: PushSettings,
+    target: Target,
     transport: T,
 ) -> Result<Calls<T>, AllocError> {
-    let PushSettings { protocol, target } = settings;
     let mut config = ClientConfig::default(alloc)?;
-    config.protocol = protocol;
+    config.protocol = target.protocol.copy(alloc)?;
     Ok(Calls {
         client: Client::new(alloc, config),
         transport,
@@ -162,6 +162,11 @@ fn mount<T: Transport>(
     }
 }
 
+fn push_signature<T: Transport>(alloc: Global, calls: &mut Calls<T>) -> Result<(), AllocError> {
+    let pushed = push_signed(alloc, &mut calls.transport, &calls.target)?;
+    signature_line(alloc, &mut calls.out, &pushed)
+}
+
 // Pushes an index of a manifest that the registry does not have.
 fn push_index<T: Transport>(alloc: Global, calls: &mut Calls<T>) -> Result<(), AllocError> {
     let Some(index) = index(alloc)? else {
@@ -191,6 +196,7 @@ pub fn make_calls<T: Transport>(alloc: Global, calls: &mut Calls<T>) -> Result<(
         mount(alloc, calls, digest)?;
         ask_mounted(alloc, calls, digest)?;
     }
+    push_signature(alloc, calls)?;
     push_index(alloc, calls)
 }
 

@@ -1,4 +1,4 @@
-// The image that is pushed: two layers, a configuration, and two documents that are pushed as they stand here.
+// The image that is pushed: two layers, a configuration, and two documents that are pushed verbatim.
 use json_tables::read_plain_json;
 use json_values::{Blob, List};
 use oci_manifests::blob::Config;
@@ -30,11 +30,22 @@ pub const MANIFEST_TYPE: &str = "application/vnd.oci.image.manifest.v1+json";
 pub const MANIFEST: &str =
     "{\n  \"schemaVersion\": 2,\n  \"mediaType\": \"application/vnd.oci.image.manifest.v1+json\",\n  \
     \"config\": {\n    \"mediaType\": \"application/vnd.oci.image.config.v1+json\",\n    \
-    \"digest\": \"sha256:ec45ba5986b75d0806e066239915dd3450a227179562857572a408217db41891\",\n    \"size\": 237\n  },\n  \
+    \"digest\": \"sha256:ec45ba5986b75d0806e066239915dd3450a227179562857572a408217db41891\",\n    \
+    \"size\": 237\n  },\n  \
     \"layers\": [\n    {\n      \"mediaType\": \"application/vnd.oci.image.layer.v1.tar\",\n      \
-    \"digest\": \"sha256:4e13572ad3ca4f7f6c1fb7e88bcdea31382f7f060394846ccffb823a0b291536\",\n      \"size\": 16\n    },\n    {\n      \
+    \"digest\": \"sha256:4e13572ad3ca4f7f6c1fb7e88bcdea31382f7f060394846ccffb823a0b291536\",\n      \
+    \"size\": 16\n    },\n    {\n      \
     \"mediaType\": \"application/vnd.oci.image.layer.v1.tar\",\n      \
-    \"digest\": \"sha256:edc7422155c7fc1d0d3ab01c9ef0a263e315f33a5f2daedaf23fa56a5d46fb91\",\n      \"size\": 17\n    }\n  ]\n}\n";
+    \"digest\": \"sha256:edc7422155c7fc1d0d3ab01c9ef0a263e315f33a5f2daedaf23fa56a5d46fb91\",\n      \
+    \"size\": 17\n    }\n  ]\n}\n";
+
+/// The digest of these bytes.
+pub const MANIFEST_DIGEST: &str =
+    "sha256:7138bf8f7050a9cf808bf5c08bc9a905014df62e4a8f8026cdced10da97d8d80";
+
+/// The tag under which signatures of that digest are.
+pub const SIGNATURE_TAG: &str =
+    "sha256-7138bf8f7050a9cf808bf5c08bc9a905014df62e4a8f8026cdced10da97d8d80.sig";
 
 // An index of one manifest, which no registry has.
 const INDEX: &str =

@@ -1,6 +1,8 @@
 // The lines that say what each call returned.
+use crate::signature::Pushed;
 use engine_terms::OciDistributionError;
 use json_values::{Blob, write_decimal};
+use sig_registry::SigstoreError;
 use std::alloc::{AllocError, Global};
 
 /// Appends a line of a label and these words.
@@ -43,4 +45,20 @@ pub fn refused(
         return Err(AllocError);
     }
     error_line(alloc, out, label, &error)
+}
+
+/// Appends the line of a push of a signature. Fails if memory ran out in the call.
+pub fn signature_line(alloc: Global, out: &mut Blob, pushed: &Pushed) -> Result<(), AllocError> {
+    match pushed {
+        Ok(pushed) => line(
+            out,
+            "signature",
+            &[pushed.config_url.as_str(), pushed.manifest_url.as_str()],
+        ),
+        Err(SigstoreError::RegistryPushError { error, .. }) => {
+            error_line(alloc, out, "signature", error)
+        }
+        Err(SigstoreError::WantOfMemory) => Err(AllocError),
+        Err(_) => line(out, "signature", &["refused"]),
+    }
 }

@@ -1,6 +1,6 @@
 //! Pushes a small image with a host, which opens the connections: asks for the settings, pushes the image, asks for its
-//! blobs, lists tags, pushes the manifest again as bytes, mounts the blobs in another repository, pushes an index that
-//! has to be refused, and sends a line for each call.
+//! blobs, lists tags, pushes the manifest again as bytes, mounts the blobs in another repository, pushes a signature of
+//! the manifest and an index that is refused, and sends a line for each call.
 #![tactic(auto)]
 
 mod calls;
@@ -8,6 +8,7 @@ mod frames;
 mod image;
 mod lines;
 mod settings;
+mod signature;
 mod status;
 
 use byte_streams::{Sink, Source, StdSink, StdSource};
@@ -16,7 +17,7 @@ use frames::{begin_head, lines_head};
 use json_values::Blob;
 use live_host::{Streams, hear, tell};
 use live_link::StreamTransport;
-use settings::{PushSettings, read_settings};
+use settings::{Target, read_settings};
 use status::Failure;
 use std::alloc::Global;
 use std::process::ExitCode;
@@ -25,7 +26,7 @@ use std::process::ExitCode;
 fn begin<S: Source, K: Sink>(
     alloc: Global,
     streams: &mut Streams<S, K>,
-) -> Result<PushSettings, Failure> {
+) -> Result<Target, Failure> {
     let head = begin_head(alloc)?;
     tell(alloc, streams, &head, &[])?;
     let frame = hear(alloc, streams)?;
@@ -37,11 +38,11 @@ fn begin<S: Source, K: Sink>(
 fn converse<S: Source + Drop, K: Sink + Drop>(
     alloc: Global,
     streams: Streams<S, K>,
-    settings: PushSettings,
+    target: Target,
 ) -> Result<(Streams<S, K>, Blob), Failure> {
     let Streams { source, sink } = streams;
     let transport = StreamTransport::new(source, sink);
-    let mut calls = calls_of(alloc, settings, transport)?;
+    let mut calls = calls_of(alloc, target, transport)?;
     make_calls(alloc, &mut calls)?;
     let (transport, lines) = end_calls(calls);
     let (source, sink) = transport.finish();
@@ -53,8 +54,8 @@ fn run<S: Source + Drop, K: Sink + Drop>(
     streams: Streams<S, K>,
 ) -> Result<(), Failure> {
     let mut streams = streams;
-    let settings = begin(alloc, &mut streams)?;
-    let (mut streams, lines) = converse(alloc, streams, settings)?;
+    let target = begin(alloc, &mut streams)?;
+    let (mut streams, lines) = converse(alloc, streams, target)?;
     let head = lines_head(alloc, lines.as_slice().len())?;
     tell(alloc, &mut streams, &head, lines.as_slice())?;
     Ok(())

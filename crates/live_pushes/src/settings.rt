@@ -9,7 +9,7 @@ use recorded_case::OrUsual;
 use serde_json::Value;
 use std::alloc::Global;
 
-/// Where the image is pushed, as whom, and when.
+/// The frame `settings`: where the image is pushed, as whom, and when, with one member for each field, of its name.
 #[derive(Drop)]
 pub struct Target {
     /// A string that parses as a reference: where the image is pushed.
@@ -18,16 +18,12 @@ pub struct Target {
     pub other: Reference,
     /// `"anonymous"`, `{"basic": [user, password]}` or `{"bearer": token}`; anonymous if the member is absent.
     pub auth: RegistryAuth,
-    /// In seconds since 1970.
-    pub moment: u64,
-}
-
-/// The frame `settings`: `protocol` and one member for each field of the target, of the field's name.
-#[derive(Drop)]
-pub struct PushSettings {
     /// `"http"` or `"https"`; `https` if the member is absent.
     pub protocol: ClientProtocol,
-    pub target: Target,
+    /// In seconds since 1970.
+    pub moment: u64,
+    /// The signature of the manifest that is pushed as bytes, in base64.
+    pub signature: Text,
 }
 
 fn read_reference(alloc: Global, value: &Value, name: &str) -> Result<Reference, ReadError> {
@@ -42,28 +38,34 @@ fn read_target(alloc: Global, value: &Value) -> Result<Target, ReadError> {
     let reference = read_reference(alloc, value, "reference")?;
     let other = read_reference(alloc, value, "other")?;
     let auth: OrUsual<RegistryAuth> = OrUsual::read_member(alloc, value.get("auth"))?;
+    let protocol: OrUsual<ClientProtocol> = OrUsual::read_member(alloc, value.get("protocol"))?;
     let moment: u64 = required(alloc, value, "moment")?;
+    let signature: Text = required(alloc, value, "signature")?;
     Ok(Target {
         reference,
         other,
         auth: auth.value,
+        protocol: protocol.value,
         moment,
+        signature,
     })
 }
 
-/// Reads settings. Returns `Shape` if the value is not a frame with the members of `PushSettings`.
-pub fn read_settings(alloc: Global, value: &Value) -> Result<PushSettings, ReadError> {
-    only(
-        value,
-        &["frame", "reference", "other", "protocol", "auth", "moment"],
-    )?;
+const NAMES: &[&str] = &[
+    "frame",
+    "reference",
+    "other",
+    "protocol",
+    "auth",
+    "moment",
+    "signature",
+];
+
+/// Reads settings. Returns `Shape` if the value is not a frame with the members of `Target`.
+pub fn read_settings(alloc: Global, value: &Value) -> Result<Target, ReadError> {
+    only(value, NAMES)?;
     if !is_frame(value, "settings") {
         return Err(ReadError::Shape);
     }
-    let protocol: OrUsual<ClientProtocol> = OrUsual::read_member(alloc, value.get("protocol"))?;
-    let target = read_target(alloc, value)?;
-    Ok(PushSettings {
-        protocol: protocol.value,
-        target,
-    })
+    read_target(alloc, value)
 }
