@@ -1,0 +1,4 @@
+pub mod Checks
+pub mod Entering
+pub mod Input
+pub mod Locks

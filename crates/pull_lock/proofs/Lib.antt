@@ -1,0 +1,10 @@
+pub mod Entries
+pub mod EntryDocuments
+pub mod FileLaws
+pub mod InOrder
+pub mod Names
+pub mod Parts
+pub mod Signatures
+pub mod Unique
+pub mod Values
+pub mod Verdicts

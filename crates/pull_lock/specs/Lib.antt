@@ -1,0 +1,4 @@
+pub mod Entries
+pub mod Files
+pub mod Locked
+pub mod Tests
