@@ -1,0 +1,4 @@
+pub mod Allowed
+pub mod OneImages
+pub mod Reviewing
+pub mod Texts
