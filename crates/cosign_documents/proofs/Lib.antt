@@ -1,0 +1,2 @@
+pub mod DocumentTests
+pub mod Images

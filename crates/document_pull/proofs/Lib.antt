@@ -1,0 +1,2 @@
+pub mod AgainParts
+pub mod Exits
