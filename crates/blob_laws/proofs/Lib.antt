@@ -1,0 +1,4 @@
+pub mod BlobTaken
+pub mod BlobsCauses
+pub mod BlobsConfined
+pub mod CutRuns

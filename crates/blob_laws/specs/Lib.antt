@@ -1,0 +1,4 @@
+pub mod Blobs
+pub mod Causes
+pub mod Cut
+pub mod Taken

@@ -1,0 +1,23 @@
+use Rattle.std.proofs.Common.{Some}
+use Rattle.oci_protocol.proofs.Laws.{Meets-refused}
+use Rattle.engine_rows.proofs.Exits.{said}
+use Rattle.engine_blobs.proofs.AttemptSteps.{spills_next, spills_on}
+use Rattle.engine_blobs.proofs.NoSink.{spills_refused, done_calm, read_calm, request_calm}
+use Rattle.blob_laws.specs.Blobs.{blob_with}
+use Rattle.image_blobs.proofs.blobs.blob_with.Goals as goal
+
+pub returns-in_err-url : goal.returns-in_err-url
+unfolding blob_with
+returns-in_err-url g c = λ k. spills_refused _ _ (done_calm _ (read_calm _)) (said _ (rw c.as_str.ensures at c.in_err-url.ensures)) (Meets-refused _ (said _ (rw c.as_str.ensures at c.in_err-url.ensures))) c.from_residual.ensures.1
+
+pub returns-in_err-request : goal.returns-in_err-request
+unfolding blob_with
+returns-in_err-request g c = λ k. spills_next _ (said _ (rw c.as_str.ensures at c.in_ok-url.ensures)) (spills_refused _ _ (done_calm _ (request_calm _ _ _ _ _)) (said _ c.in_err-request.ensures) (Meets-refused _ (said _ c.in_err-request.ensures)) c.from_residual-in_err-request.ensures.1)
+
+pub returns-in_err-cut_at : goal.returns-in_err-cut_at
+unfolding blob_with
+returns-in_err-cut_at g c = λ k. spills_next _ (said _ (rw c.as_str.ensures at c.in_ok-url.ensures)) (spills_next _ (said _ c.in_ok-request.ensures) (spills_on (rw (c.size_of.ensures, c.as_str.ensures, c.urls_of-urls.ensures) at (c.in_err-cut_at.ensures k)) c.from_residual-in_err-cut_at.ensures.1))
+
+pub returns : goal.returns
+unfolding blob_with
+returns g c = λ k. spills_next _ (said _ (rw c.as_str.ensures at c.in_ok-url.ensures)) (spills_next _ (said _ c.in_ok-request.ensures) (rw (c.size_of.ensures, c.as_str.ensures, c.urls_of-urls.ensures) at (c.in_ok-cut_at.ensures k)))

@@ -1,0 +1,13 @@
+//! An image's blobs as they are received: each by its digest, cut at its size, into a sink that the caller opens for
+//! it; and bytes from a source, checked against a descriptor.
+#![tactic(auto)]
+
+mod attempts;
+mod blobs;
+mod checked;
+mod pulls;
+mod sinks;
+
+pub use checked::check_blob;
+pub use pulls::{BlobRange, pull_blobs};
+pub use sinks::Sinks;
