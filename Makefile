@@ -111,6 +111,7 @@ bench: program $(TIMED)
 	python3 bench/bundles.py
 	python3 bench/streams.py
 	python3 bench/generated.py
+	python3 bench/reviews.py
 
 # Makes each allocation of the stored run fail in turn.
 allocations: program

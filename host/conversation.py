@@ -1,77 +1,64 @@
 """The conversation with the core: its frames are answered until one says how the pull ended."""
 import json
 import re
-from typing import BinaryIO, Protocol
+from typing import BinaryIO
 from urllib.parse import urlsplit
 
-from host.core import PIECE, Core, Frame
-from host.layout import BUNDLE, Layout, digest_of
+from host.core import PIECE, Core, Frame, framed
+from host.layout import BUNDLE, Layout, Stored, blob_name, digest_of
+from host.network import Network
 from host.signatures import Signatures
 
-BLOB, DOCUMENT, DOCUMENTS = re.compile(r"/v2/.+/blobs/(sha\d+:[0-9a-f]+)"), 4 << 20, 64 << 20
-
-
-class Registry(Protocol):
-    statuses: dict[str, int]
-    failure: str
-    signed: bool
-
-    def clear(self) -> None: ...
-    def reply(self, frame: Frame) -> tuple[Frame, bytes]: ...
+BLOB, RECORDED = re.compile(r"/v2/.+/blobs/(sha\d+:[0-9a-f]+)"), 64 << 20
 
 
 class Exchanges:
-    """What the core asks of a registry. A blob that the layout has is read there, one that comes is kept there, and so are signatures."""
+    """What the core asks of a registry. The documents of the search are recorded; blobs of the image are kept in the layout, or read there."""
 
-    def __init__(self, registry: Registry, layout: Layout | None) -> None:
-        self.registry, self.layout, self.digest, self.status = registry, layout, "", 0
-        self.searching, self.bodies, self.held, self.accepted, self.kept = True, [bytearray()], 0, False, 0
-        self.registry.signed, self.recording = False, False
+    def __init__(self, registry: Network | Stored, layout: Layout | None) -> None:
+        self.registry, self.layout, self.digest = registry, layout, ""
+        self.is_search, self.is_signed, self.is_document = True, False, False
+        self.bodies, self.held, self.accepted, self.kept = [bytearray()], 0, False, 0
         self.file: BinaryIO | None = None
         self.download: BinaryIO | None = None
 
     def reply(self, frame: Frame) -> tuple[Frame, bytes]:
-        if frame["frame"] == "more" and self.file:
-            data = self.file.read(PIECE)
-            return ({"frame": "piece", "bytes": len(data)}, data) if data else ({"frame": "end"}, b"")
         if frame["frame"] == "request":
-            path, redirected = urlsplit(frame["url"]).path, 300 <= self.status < 400
-            blob = BLOB.fullmatch(path)
-            self.digest = blob[1] if blob else self.digest if redirected else ""
-            self.recording = self.searching and (bool(blob) or "/manifests/" in path or redirected and self.recording)  # and no tokens
-            reused = self.layout if blob and frame["method"] == "GET" and not self.searching else None  # signatures are recorded as they come
-            found = reused.find(self.digest) if reused else None
-            self.file = open(found, "rb") if found else None
-            if self.file:
-                return {"frame": "answer", "status": 200, "headers": []}, b""
+            return self.request(frame)
+        if self.file:
+            return framed(self.file.read(PIECE))
         answer, data = self.registry.reply(frame)
-        if frame["frame"] == "request":
-            self.begin(answer.get("status", 0), any(name.lower() == "authorization" for name, _ in frame["headers"]))
-        else:
-            self.keep(answer, data)
-        return answer, data
-
-    def begin(self, status: int, shown: bool) -> None:
-        self.status, self.accepted = status, self.accepted or shown and status == 200
-        self.bodies += [bytearray()] if self.bodies[-1] else []
-        self.download = None
-        if self.layout and self.digest and status == 200 and not self.searching:
-            self.download = open(self.layout.work / "download", "wb")
-
-    def keep(self, answer: Frame, data: bytes) -> None:
-        if self.recording and len(self.bodies[-1]) + len(data) <= DOCUMENT and self.held + len(data) <= DOCUMENTS:
+        if self.is_document and self.held + len(data) <= RECORDED:
             self.bodies[-1] += data
             self.held += len(data)
-        elif self.download and self.layout:
+        elif self.download:
             self.download.write(data)
             if answer["frame"] == "end":
                 self.download.close()
-                self.layout.take(self.digest)
                 self.kept += 1
+        return answer, data
+
+    def request(self, frame: Frame) -> tuple[Frame, bytes]:
+        if frame["url"].lower().startswith(self.registry.base):  # else a realm, or where something that was requested before is kept
+            path = urlsplit(frame["url"]).path
+            blob = BLOB.fullmatch(path)
+            self.digest, self.is_document = blob[1] if blob else "", self.is_search and (bool(blob) or "/manifests/" in path)
+        layout = self.layout if self.digest and frame["method"] == "GET" and not self.is_search else None
+        found = layout.find(self.digest) if layout else None
+        self.file = open(found, "rb") if found else None
+        if self.file:
+            return {"frame": "answer", "status": 200, "headers": []}, b""
+        self.registry.blob = self.digest if self.is_signed else ""
+        answer, data = self.registry.reply(frame)
+        is_good = answer.get("status") == 200
+        self.accepted = self.accepted or is_good and any(name.lower() == "authorization" for name, _ in frame["headers"])
+        self.bodies += [bytearray()] if self.bodies[-1] else []
+        self.download = layout.create(blob_name(self.digest)) if layout and is_good else None
+        return answer, data
 
     def searched(self, found: bool) -> None:
         """The search is over: what comes from here on is the image, which may be large if a signature was found."""
-        self.searching, self.registry.signed = False, self.registry.signed or found
+        self.is_search, self.is_signed = False, self.is_signed or found
 
     def signatures(self, digest: str) -> dict[str, list[list[bytes]]]:
         """The manifests that name a signature, each with its blobs, by where the search found them."""
@@ -89,26 +76,29 @@ class Exchanges:
         return found
 
 
-def converse(core: Core, first: Frame, exchanges: Exchanges, signatures: Signatures) -> Frame:
-    """Answers the core's frames until one says how the pull ended."""
+def converse(core: Core, settings: Frame, exchanges: Exchanges, signatures: Signatures) -> Frame:
+    """Answers the core's frames. The one that says how the pull ended, or one named `ended` with the core's status if none does."""
     layout = exchanges.layout
-    while True:
-        frame = core.read()
-        body = core.body(frame)
-        match frame["frame"]:
-            case "begin":
-                core.write(first)
-            case "request" | "more":
-                core.write(*exchanges.reply(frame))
-            case "verify" | "judge":
-                reply = signatures.reply(frame, b"".join(body))
-                exchanges.searched(bool(reply.get("valid") or reply.get("vouched")))
-                core.write(reply)
-            case "document" | "blob" if layout:
-                if frame["kind"] == "manifest":
-                    layout.manifest = {"mediaType": frame["media_type"], "digest": frame["digest"], "size": frame["bytes"]}
-                layout.add(frame["digest"], body)
-            case "pulled" | "refused":
-                return frame
-        for _ in body:
-            pass
+    try:
+        while (frame := core.read())["frame"] not in ("pulled", "refused"):
+            body = core.body(frame)
+            match frame["frame"]:
+                case "begin":
+                    core.write(settings)
+                case "request" | "more":
+                    core.write(*exchanges.reply(frame))
+                case "verify" | "judge":
+                    reply = signatures.reply(frame, b"".join(body))
+                    exchanges.searched(bool(reply.get("valid") or reply.get("vouched")))
+                    core.write(reply)
+                case "document" | "blob" if layout:
+                    if frame["kind"] == "manifest":
+                        layout.manifest = {"mediaType": frame["media_type"], "digest": frame["digest"], "size": frame["bytes"]}
+                    layout.add(frame["digest"], body)
+            for _ in body:
+                pass
+        return frame
+    except (BrokenPipeError, LookupError, TypeError, ValueError):
+        return {"frame": "ended", "status": core.end()}
+    finally:
+        core.process.kill()

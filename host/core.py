@@ -10,6 +10,11 @@ Frame = dict[str, Any]
 LINE, PIECE = 1 << 24, 1 << 19
 
 
+def framed(piece: bytes) -> tuple[Frame, bytes]:
+    """The next piece of a body as the core gets it, or its end."""
+    return ({"frame": "piece", "bytes": len(piece)}, piece) if piece else ({"frame": "end"}, b"")
+
+
 class Core:
     """A core that runs. A body is handed on in pieces, so that none is ever held whole."""
 

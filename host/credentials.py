@@ -36,7 +36,7 @@ def helped(helper: str, server: str) -> Any:
     found = json.loads(done.stdout)
     if found["Username"] == "<token>":
         raise ValueError(TOKEN.format(server))
-    return {"basic": [found["Username"], found["Secret"]]}
+    return {"basic": [found["Username"], found["Secret"]]} if found["Username"] or found["Secret"] else None
 
 
 def entered(entry: dict[str, Any], name: str) -> Any:

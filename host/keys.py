@@ -1,4 +1,5 @@
 """Public keys, and whether a signature is valid under one: ECDSA and RSA (PKCS #1 v1.5) over SHA-256, and Ed25519, as cosign signs."""
+import contextlib
 import functools
 import re
 from pathlib import Path
@@ -15,20 +16,16 @@ CURVES = (ec.SECP256R1, ec.SECP384R1, ec.SECP521R1)
 ACCEPTED = "ECDSA on P-256, P-384 or P-521, RSA of 2048 to 16384 bits, or Ed25519"
 
 
-def parsed(data: bytes) -> Any:
-    """The public key in these bytes: PEM or DER, or a certificate in PEM; None if there is none."""
-    try:
-        if data.startswith(b"-----BEGIN CERTIFICATE"):
-            return x509.load_pem_x509_certificate(data).public_key()
-        return load_pem_public_key(data) if data.startswith(b"-----") else load_der_public_key(data)
-    except (ValueError, UnsupportedAlgorithm):
-        return None
-
-
 @functools.lru_cache(256)
 def load(data: bytes) -> Any:
-    """The public key in these bytes; ValueError if there is none that is accepted."""
-    match key := parsed(data):
+    """The public key in these bytes, PEM or DER, or of a certificate in PEM; ValueError if there is none that is accepted."""
+    key: Any = None
+    with contextlib.suppress(ValueError, UnsupportedAlgorithm):
+        if data.startswith(b"-----BEGIN CERTIFICATE"):
+            key = x509.load_pem_x509_certificate(data).public_key()
+        else:
+            key = load_pem_public_key(data) if data.startswith(b"-----") else load_der_public_key(data)
+    match key:
         case ec.EllipticCurvePublicKey() if isinstance(key.curve, CURVES):
             return key
         case rsa.RSAPublicKey() if 2048 <= key.key_size <= 16384 and key.public_numbers().e > 2:

@@ -12,7 +12,7 @@ import tarfile
 from pathlib import Path
 from typing import Any, BinaryIO, Iterable
 
-from host.core import PIECE, Frame
+from host.core import PIECE, Frame, framed
 
 DIGEST = re.compile(r"([a-z0-9]+(?:[+._-][a-z0-9]+)*):([0-9a-f]+)")  # OCI image specification, "Digests"
 NAME, OURS, BUNDLE = "org.opencontainers.image.ref.name", "dev.roksnaep.", "application/vnd.dev.sigstore.bundle"
@@ -53,7 +53,7 @@ class Layout:
     """An image that is being written to `work`, a hidden folder beside its place, or in it (`home`) if that is a folder already."""
 
     def __init__(self, target: Path, form: str, tag: str | None) -> None:
-        self.target, self.form, self.tag, self.manifest = target, form, tag, dict[str, Any]()
+        self.target, self.form, self.tag, self.manifest, self.names = target, form, tag, dict[str, Any](), set[str]()
         self.index: dict[str, Any] = {"schemaVersion": 2, "mediaType": INDEX, "manifests": []}
         self.home = target.resolve() if form == "oci" and target.is_dir() else None
         if self.home and any(self.home.iterdir()):
@@ -88,25 +88,23 @@ class Layout:
                         return path
         return None
 
-    def put(self, name: str, pieces: Iterable[bytes]) -> None:
+    def create(self, name: str) -> BinaryIO:
+        """A file to write. A blob may be broken off: whether it has its digest `find` sees, and it stays only if it is added."""
         (self.work / name).parent.mkdir(parents=True, exist_ok=True)
-        with open(self.work / name, "wb") as file:
+        return open(self.work / name, "wb")
+
+    def put(self, name: str, pieces: Iterable[bytes]) -> None:
+        with self.create(name) as file:
             file.writelines(pieces)
 
     def add(self, digest: str, pieces: Iterable[bytes]) -> None:
         """A document or a blob. One that is there already is not written again."""
+        self.names.add(blob_name(digest))
         if not self.find(digest):
             self.put(blob_name(digest), pieces)
 
-    def take(self, digest: str) -> None:
-        """What was downloaded becomes the file of this digest; whether it has that digest, `find` sees."""
-        path = self.work / blob_name(digest)
-        path.parent.mkdir(parents=True, exist_ok=True)
-        (self.work / "download").rename(path)
-
     def finish(self, reference: str, signed: str, signatures: dict[str, list[list[bytes]]]) -> None:
         """Writes the signatures (of each its manifest and its blobs) by where they were found, and what names the image; then has all on the disk."""
-        (self.work / "download").unlink(missing_ok=True)
         notes = {NAME: self.tag or reference, f"{OURS}reference": reference, f"{OURS}signed-digest": signed}
         for source, manifests in signatures.items():
             notes[OURS + source] = " ".join(digest_of(documents[0]) for documents in manifests)
@@ -120,6 +118,9 @@ class Layout:
             config, *layers = (blob_name(blob["digest"]) for blob in (manifest["config"], *manifest["layers"]))
             tag = self.tag or (name if ":" in name.rpartition("/")[2] else f"{name}:latest")
             self.put("manifest.json", [json.dumps([{"Config": config, "RepoTags": [tag], "Layers": layers}]).encode()])
+        for path in (self.work / "blobs").glob("*/*"):
+            if str(path.relative_to(self.work)) not in self.names:
+                path.unlink()
         files = sorted(path for path in self.work.rglob("*") if path.is_file())
         if self.form != "oci":
             with tarfile.open(self.work / "archive", "w") as archive:
@@ -156,16 +157,12 @@ class Stored:
         self.reference = re.sub("(:[^/]*)?(@.*)?$", "", notes.get(f"{OURS}reference", "localhost/image")) + f"@{self.digest}"
         self.tagged, self.referrers = ([digest for digest in notes.get(OURS + source, "").split() if self.path(digest).is_file()]
                                        for source in ("tag", "referrers"))
-        self.statuses, self.failure, self.signed = dict[str, int](), "", False
+        self.statuses, self.failure, self.base, self.blob = dict[str, int](), "", "", ""
         self.body: BinaryIO = io.BytesIO()
-
-    def clear(self) -> None:
-        """There is no progress to show."""
 
     def reply(self, frame: Frame) -> tuple[Frame, bytes]:
         if frame["frame"] == "more":
-            data = self.body.read(PIECE)
-            return ({"frame": "piece", "bytes": len(data)}, data) if data else ({"frame": "end"}, b"")
+            return framed(self.body.read(PIECE))
         *_, kind, name = frame["url"].split("/")
         if name.endswith(".sig") and self.tagged:
             name = self.tagged[0]

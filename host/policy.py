@@ -114,9 +114,6 @@ class Policy:
         except (OSError, ValueError) as error:
             raise self.error(None, f"rule {number} ({images}): {error}") from None
 
-    def for_reference(self, reference: str) -> Rule:
-        """The first rule that covers the repository; ValueError if none does."""
-        for images, rule in self.rules:
-            if f"{repository_of(reference)}/".startswith(f"{images}/"):
-                return rule
-        raise ValueError(f"{reference} is covered by no rule of {self.path}")
+    def for_reference(self, reference: str) -> Rule | None:
+        """The first rule that covers the repository."""
+        return next((rule for images, rule in self.rules if f"{repository_of(reference)}/".startswith(f"{images}/")), None)

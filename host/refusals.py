@@ -2,7 +2,7 @@
 import json
 import re
 
-from host.network import shown
+from host.places import shown
 
 WORD = re.compile(r'"(?:[^"\\]|\\.)*"|\S+')
 KEYS = "sign it (cosign sign --key), or check that --key and --annotation are the publisher's"

@@ -48,7 +48,8 @@ def unpacked(name: str) -> Path:
 def program(name: str) -> tuple[Path, str]:
     """The program, and which one it is."""
     named, crate = os.environ.get("ROKSNAEP_CORE") if name == "roksnaep-core" else None, name.replace("-", "_")
-    for path, which in ((Path(named or ""), "named by ROKSNAEP_CORE"), (TOP / "bin" / name, "installed"), (TOP / "crates" / crate / "out" / crate, "built here")):
+    built = TOP / "crates" / crate / "out" / crate
+    for path, which in ((Path(named or ""), "named by ROKSNAEP_CORE"), (TOP / "bin" / name, "installed"), (built, "built here")):
         if path.is_file() or named:
             return path, which
     if os.uname().machine != "x86_64" or not DIST.is_dir():

@@ -90,11 +90,13 @@ class Files(WithFolder):
         self.helper("locked", "echo the store is locked; exit 1\n")
         self.helper("token", 'echo "{\\"Username\\":\\"<token>\\",\\"Secret\\":\\"x\\"}"\n')
         self.helper("junk", "echo junk\n")
-        self.keep({"n.io": pair("kept:1")}, credHelpers={"r.io": "one", "n.io": "none", "l.io": "locked", "t.io": "token", "j.io": "junk", "a.io": "absent", "p.io": "../one", "s.io": "one; x"}, credsStore="one")
+        self.helper("pass", 'echo "{\\"Username\\":\\"\\",\\"Secret\\":\\"\\"}"\n')
+        self.keep({"n.io": pair("kept:1")}, credHelpers={"r.io": "one", "n.io": "none", "e.io": "pass", "l.io": "locked", "t.io": "token", "j.io": "junk", "a.io": "absent", "p.io": "../one", "s.io": "one; x"}, credsStore="one")
         self.assertEqual(credentials("r.io/app", None), {"basic": ["one", "of r.io"]})
         self.assertEqual(credentials("other.io/app", None), {"basic": ["one", "of other.io"]})
         self.assertEqual(credentials("docker.io/library/app", None), {"basic": ["one", "of https://index.docker.io/v1/"]})
         self.assertEqual(credentials("n.io/app", None), {"basic": ["kept", "1"]})
+        self.assertEqual(credentials("e.io/app", None), "anonymous")  # what docker-credential-pass says of a server that it does not know
         for name, told in (("l.io", "the store is locked"), ("t.io", "identity token"), ("j.io", "gives no credentials"), ("a.io", "docker-credential-absent"), ("p.io", "docker-credential-../one"), ("s.io", "docker-credential-one; x")):
             with self.assertRaisesRegex(ValueError, told):
                 credentials(f"{name}/app", None)

@@ -56,6 +56,18 @@ class Places(WithFolder):
             self.assertEqual(self.pull(place, out="d/e/image")[0], 1)
             self.assertEqual((self.left("."), self.left("d")), (["d", "private", "public"], []))
 
+    def test_a_blob_that_broke_off_does_not_stay(self):
+        layout = Layout(self.folder / "image", "oci", None)
+        for content in (CONFIG, LAYERS[0]):
+            with layout.create(host.layout.blob_name(digest_of(content))) as file:
+                file.write(content[:5])
+        layout.add(digest_of(CONFIG), [CONFIG])
+        layout.manifest = {"digest": digest_of(CONFIG)}
+        layout.finish("r.io/app:v1", digest_of(CONFIG), {})
+        layout.place()
+        self.assertEqual(self.blobs("image"), {digest_of(CONFIG)[7:]})
+        self.assertEqual((self.folder / "image/blobs/sha256" / digest_of(CONFIG)[7:]).read_bytes(), CONFIG)
+
     def test_files_and_folders_are_synced(self):
         done = []
         with mock.patch.object(host.layout, "sync", done.append):

@@ -23,7 +23,9 @@ sys.dont_write_bytecode = True
 sys.path.insert(0, str(Path(__file__).resolve().parent.parent.parent))
 
 from host.core import PIECE  # noqa: E402
-from host.network import Access, Limits, Network, is_loopback, is_public, place_of, shown  # noqa: E402
+from host.network import Network  # noqa: E402
+from host.places import Access, Place, is_loopback, is_public, place_of, shown  # noqa: E402
+from host.terminal import progress  # noqa: E402
 
 MIB = 1 << 20
 LAYER, SECOND = "/v2/app/blobs/sha256:" + "a" * 64, "/v2/app/blobs/sha256:" + "b" * 64
@@ -84,10 +86,8 @@ class Server:
             closing.close()
 
 
-def network_of(server, limits=Limits(idle=15), **access):
-    network = Network(Access(server.place, **{"plain": not server.tls} | access), limits)
-    network.signed = True
-    return network
+def network_of(server, limits=dict(timeout=15), **access):
+    return Network(Access(server.place, **{"plain": not server.tls} | access), **limits)
 
 
 class Stopped(BaseException):
@@ -95,7 +95,8 @@ class Stopped(BaseException):
 
 
 def get(network, url, headers=(), method="GET", keep=True):
-    """How a request and its body ended, the head, and the body."""
+    """How a request and its body ended, the head, and the body. The two layers are blobs that may be long."""
+    network.blob = url.rpartition("/")[2] if url.endswith((LAYER, SECOND)) else ""
     head, _ = network.reply({"frame": "request", "method": method, "url": url, "headers": list(headers)})
     end, pieces = head["frame"], []
     while end in ("answer", "piece"):
@@ -116,7 +117,7 @@ def forever(line, pause=0.0):
 
 
 class Hostile(unittest.TestCase):
-    def refused(self, way, told, limits=Limits(idle=5), path=LAYER, seconds=20):
+    def refused(self, way, told, limits=dict(timeout=5), path=LAYER, seconds=20):
         with Server(way) as server:
             network, began, before = network_of(server, limits), time.monotonic(), resource.getrusage(resource.RUSAGE_SELF).ru_maxrss
             end, _, _ = get(network, f"http://{server.place}{path}")
@@ -152,25 +153,25 @@ class Hostile(unittest.TestCase):
         def way(connection, _):
             connection.sendall(chunked(b"1;"))
             forever(b"y" * 1000)(connection, _)
-        self.refused(way, "", Limits(idle=1))
-        self.refused(forever(b"X: y\r\n\r\n" + b"1\r\nx\r\n" * 1000), "", Limits(idle=1, end=time.monotonic() + 3))
+        self.refused(way, "", dict(timeout=1))
+        self.refused(forever(b"X: y\r\n\r\n" + b"1\r\nx\r\n" * 1000), "", dict(timeout=1, end=time.monotonic() + 3))
 
     def test_a_drip(self):
         def way(connection, _):
             connection.sendall(answer(b"", 200, "Content-Length: 9000000"))
             forever(b"x", 0.01)(connection, _)
-        self.refused(way, "too slow", Limits(idle=0.5))
-        self.refused(way, "the time of the command is over", Limits(end=time.monotonic() + 0.5))
+        self.refused(way, "too slow", dict(timeout=0.5))
+        self.refused(way, "the time of the command is over", dict(end=time.monotonic() + 0.5))
 
         def head(connection, _):
             for byte in answer(b"", 200, "x: " + "y" * 1000):
                 connection.sendall(bytes([byte]))
                 time.sleep(0.05)
-        self.refused(head, "too slow", Limits(idle=0.5))
+        self.refused(head, "too slow", dict(timeout=0.5))
 
     def test_silence(self):
-        self.refused(lambda *_: time.sleep(20), "too slow", Limits(idle=0.3))
-        self.refused(lambda *_: time.sleep(20), "the time of the command is over", Limits(end=time.monotonic() + 0.3))
+        self.refused(lambda *_: time.sleep(20), "too slow", dict(timeout=0.3))
+        self.refused(lambda *_: time.sleep(20), "the time of the command is over", dict(end=time.monotonic() + 0.3))
 
     def test_a_server_that_does_not_accept(self):
         with socket.create_server(("127.0.0.1", 0), backlog=0) as full:
@@ -179,7 +180,7 @@ class Hostile(unittest.TestCase):
             for one in waiting:
                 one.setblocking(False)
                 one.connect_ex(("127.0.0.1", port))
-            network, began = Network(Access(f"127.0.0.1:{port}", True), Limits(connect=0.3)), time.monotonic()
+            network, began = Network(Access(f"127.0.0.1:{port}", True), timeout=0.3), time.monotonic()
             self.assertEqual(get(network, f"http://127.0.0.1:{port}/v2/")[0], "failed")
             self.assertLess(time.monotonic() - began, 9)
             self.assertRegex(network.failure, "(?i)time")
@@ -194,7 +195,7 @@ class Hostile(unittest.TestCase):
             (answer(b"", 200, *["a: b"] * 1001), "more than 1000"), (answer(b"", 200, "Transfer-Encoding: gzip, chunked"), "transfer encoding"),
             (chunked(b"1\r\nx\r\n0\r\nHTTP/1.1 200 X\r\n\r\n"), ""), (answer(b"x", 200, "Content-Length: 1", "Content-Length: 2"), ""), (answer(b"", 200, "Content-Length: -5"), ""),
         ):
-            self.refused(way, told, Limits(idle=0.5))
+            self.refused(way, told, dict(timeout=0.5))
 
     def test_a_long_challenge(self):
         challenge = "Bearer " + "bearer " * 2000 + 'realm="https://a' + "," * 14000
@@ -206,23 +207,17 @@ class Hostile(unittest.TestCase):
 
     def test_a_document_has_a_limit(self):
         def way(connection, path):
-            if "redirected" in path:
-                return answer(b"", 307, f"Location: http://{server.place}/cdn/x?secret")
-            return answer(b"x" * (5 * MIB), 404 if "absent" in path else 200)
+            return answer(b"x" * (5 * MIB), 404 if "absent" in path else 206 if "part" in path else 200)
         with Server(way) as server:
-            base, network = f"http://{server.place}", network_of(server)
-            for path in ("/v2/", "/v2/app/manifests/v1", "/v2/app/referrers/sha256:a", "/token", "/v2/blobs/x", "/v2/app/blobs/x/y", "/v2/app/blobs/absent"):
-                network.blob = ""
-                self.assertEqual(get(network, base + path)[0], "failed", path)
-                self.assertIn("longer than 4194304 bytes, the limit of a document", network.failure)
-            self.assertEqual(get(network, base + LAYER)[0], "end")
-            self.assertEqual(get(network, base + "/v2/app/blobs/redirected")[1]["status"], 307)
-            self.assertEqual(get(network, base + "/cdn/x?secret")[0], "end")
-            self.assertEqual(get(network, base + "/v2/app/manifests/redirected")[1]["status"], 307)
-            self.assertEqual(get(network, base + "/cdn/x?secret")[0], "failed")
-            network.signed = False
-            self.assertEqual(get(network, base + LAYER)[0], "failed")
-            self.assertEqual(get(network_of(server, Limits(document=6 * MIB)), base + "/v2/app/manifests/v1")[0], "end")
+            network, limits = network_of(server), dict(document=6 * MIB)
+            for blob, path, ended in (("", LAYER, "failed"), ("sha256:a", LAYER, "end"), ("sha256:a", "/part", "end"), ("sha256:a", "/absent", "failed"), ("", "/v2/app/manifests/v1", "failed")):
+                network.blob = blob
+                network.reply({"frame": "request", "method": "GET", "url": f"http://{server.place}{path}", "headers": []})
+                while (end := network.reply({"frame": "more"})[0]["frame"]) == "piece":
+                    pass
+                self.assertEqual(end, ended, (blob, path))
+            self.assertIn("longer than 4194304 bytes, the limit of a document", network.failure)
+            self.assertEqual(get(network_of(server, limits), f"http://{server.place}/v2/app/manifests/v1")[0], "end")
 
     def test_a_token_answer_at_a_blobs_path_is_limited(self):
         def way(_, path):
@@ -230,7 +225,7 @@ class Hostile(unittest.TestCase):
         with Server(way) as server:
             network = network_of(server)
             get(network, f"http://{server.place}/v2/")
-            self.assertEqual(get(network, f"http://{server.place}{LAYER}?scope=a")[0], "failed")
+            self.assertEqual(get(network, f"http://{server.place}{LAYER}")[0], "failed")
             self.assertEqual(get(network, f"http://{server.place}{LAYER}")[0], "end")
 
 
@@ -260,10 +255,8 @@ class Headers(unittest.TestCase):
 
 class Rules(unittest.TestCase):
     def asked(self, url, registry="r.example", plain=False, hosts=(), headers=(), realm=""):
-        network = Network(Access(registry, plain, tuple(hosts)), Limits())
-        network.realms = {place_of(realm)} if realm else set()
         try:
-            network.check(place_of(url), [list(header) for header in headers])
+            Access(registry, plain, hosts).check(place_of(url), [list(header) for header in headers], {place_of(realm)} if realm else set())
             return True
         except ValueError:
             return False
@@ -304,11 +297,11 @@ class Rules(unittest.TestCase):
 
     def test_a_name_that_leads_to_a_private_address(self):
         with Server(answer(b"x")) as other, Server(answer(b"x")) as server:
-            network = network_of(server, Limits(connect=0.5, idle=1))  # curl resolves names below .localhost to this machine by itself
+            network = network_of(server, dict(timeout=1))  # curl resolves names below .localhost to this machine by itself
             self.assertEqual(get(network, f"https://cdn.localhost:{other.port}/x?secret")[0], "failed")
             self.assertRegex(network.failure, r"^https://cdn.localhost:\d+/x: it leads to (127.0.0.1|::1), which is not a public address")
             self.assertEqual(other.connections, 0)
-            self.assertEqual(get(network_of(server, Limits(connect=0.5), hosts=("cdn.localhost",)), f"https://cdn.localhost:{other.port}/x")[0], "failed")
+            self.assertEqual(get(network_of(server, dict(timeout=0.5), hosts=("cdn.localhost",)), f"https://cdn.localhost:{other.port}/x")[0], "failed")
             self.assertEqual(other.connections, 1)  # it is named; but it speaks no TLS
             self.assertEqual(get(network, f"http://{other.place}/x")[0], "failed")
             self.assertEqual(get(network, f"https://{other.place}/x")[0], "failed")
@@ -324,11 +317,16 @@ class Rules(unittest.TestCase):
             with server:
                 self.assertEqual(get(network_of(server), f"http://{server.place}/v2/")[2], b"x")
                 place = f"[{host}]:{server.port}" if ":" in host else f"{host}:{server.port}"
-                self.assertEqual(get(Network(Access(place, True), Limits()), f"http://{place}/v2/")[2], b"x")
+                self.assertEqual(get(Network(Access(place, True)), f"http://{place}/v2/")[2], b"x")
+
+    def test_how_urls_of_the_registry_begin(self):
+        for registry, plain, base in (("r.example", False, "https://r.example/v2/"), ("r.example:443", False, "https://r.example/v2/"), ("r.example:443", True, "http://r.example:443/v2/"),
+                                      ("localhost:0080", True, "http://localhost/v2/"), ("[::1]:5000", True, "http://[::1]:5000/v2/"), ("docker.io", False, "https://index.docker.io/v2/")):
+            self.assertEqual(Access(registry, plain).base, base)
 
     def test_registries_that_are_invalid(self):
         for registry in ("a b", "r.example/x y", "", "[::1", "r.example:x"):
-            self.assertEqual(Network(Access(registry, False), Limits()).registry, ("", "", 0), registry)
+            self.assertEqual(Access(registry, False).own, Place("", "", 0, ""), registry)
 
     def test_a_machine_without_ipv6(self):
         def made(family, *more, **named):
@@ -341,7 +339,7 @@ class Rules(unittest.TestCase):
             self.assertEqual(get(network, f"http://{server.place}/v2/")[0], "failed")
             self.assertIn("remaining", network.failure)
             self.assertEqual(get(network, "http://localhost:1/v2/")[0], "failed")
-            network = Network(Access("localhost:1", True), Limits())
+            network = Network(Access("localhost:1", True))
             self.assertEqual(get(network, "http://localhost:1/v2/")[0], "failed")
             self.assertRegex(network.failure, "(?i)connect")
 
@@ -399,7 +397,7 @@ class Rules(unittest.TestCase):
 
 
 class Again(unittest.TestCase):
-    def told(self, *answers, method="GET", limits=Limits(idle=5)):
+    def told(self, *answers, method="GET", limits=dict(timeout=5)):
         """What came of a request that a server answers so, one after another, the last one again; and how many requests it saw."""
         following = itertools.chain(answers, itertools.repeat(answers[-1]))
         with Server(lambda *_: next(following)) as server:
@@ -433,7 +431,7 @@ class Again(unittest.TestCase):
             self.assertEqual(self.told(answer(b"y", 429, f"Retry-After: {text}")), ("end", 429, b"y", 1), text)
         self.assertEqual(self.told(answer(b"y", 503)), ("end", 503, b"y", 1))
         self.assertEqual(self.told(answer(b"y", 500, "Retry-After: 0")), ("end", 500, b"y", 1))
-        self.assertEqual(self.told(answer(b"y", 429, "Retry-After: 5"), limits=Limits(end=time.monotonic() + 3)), ("end", 429, b"y", 1))
+        self.assertEqual(self.told(answer(b"y", 429, "Retry-After: 5"), limits=dict(end=time.monotonic() + 3)), ("end", 429, b"y", 1))
 
     def test_connections_are_kept(self):
         with Server(lambda _, path: answer(b"x" * 500, 401 if path == "/v2/" else 200)) as server:
@@ -460,13 +458,14 @@ class Again(unittest.TestCase):
             network = network_of(server)
             network.reply({"frame": "request", "method": "GET", "url": f"http://{server.place}{LAYER}", "headers": []})
             network.reply({"frame": "more"})
-            self.assertEqual(get(network, f"http://{server.place}/v2/")[2], b"y")
             self.assertLessEqual(len(network.answer.body), PIECE)
+            self.assertEqual(get(network, f"http://{server.place}/v2/")[2], b"y")
 
     def test_a_slow_reader(self):
         content = os.urandom(9 * MIB + 7)
         with Server(answer(content)) as server:
-            network, held, pieces = network_of(server, Limits(idle=3)), 0, []
+            network, held, pieces = network_of(server, dict(timeout=3)), 0, []
+            network.blob = "sha256:a"
             network.reply({"frame": "request", "method": "GET", "url": f"http://{server.place}{LAYER}", "headers": []})
             while (got := network.reply({"frame": "more"}))[0]["frame"] == "piece":
                 held = max(held, len(network.answer.body) + len(got[1]))
@@ -485,7 +484,7 @@ class Again(unittest.TestCase):
         for way in (lambda *_: time.sleep(5), forever(b"HTTP/1.1 100 Continue\r\n\r\n", 0.001), lambda c, _: [c.sendall(endless)] and forever(b"x" * MIB)(c, _)):
             for pause in (0.05, 0.1, 0.15, 0.2):
                 with Server(way) as server:
-                    network = network_of(server, Limits(headers=1 << 30))
+                    network = network_of(server, dict(headers=1 << 30))
                     with self.assertRaises(Stopped):
                         signal.setitimer(signal.ITIMER_REAL, pause)
                         ended = get(network, f"http://{server.place}{LAYER}", keep=False)
@@ -541,7 +540,7 @@ class Ways(unittest.TestCase):
                 network = network_of(server, authority=authority)
                 self.assertEqual(get(network, url)[0], "failed")
                 self.assertIn("certificate", network.failure)
-            there = Network(Access(f"127.0.0.1:{server.port}", False, authority=pem), Limits())
+            there = Network(Access(f"127.0.0.1:{server.port}", False, authority=pem))
             self.assertEqual(get(there, f"https://127.0.0.1:{server.port}/v2/")[0], "failed")
             self.assertEqual(len(server.seen), 1)
             self.assertEqual(server.connections, 4)  # what a certificate decides is not tried again
@@ -565,18 +564,18 @@ class Ways(unittest.TestCase):
         with mock.patch.dict(os.environ, clean, clear=True), Server(answer(b"plain")) as server, Server(answer(b"secure"), tls=tls) as secure, \
                 Server(proxy_of(server)) as proxy, Server(proxy_of(secure)) as tunnel:
             named, by = Access("registry.test", True, proxy=f"http://{proxy.place}"), Access("registry.test", False, authority=pem, proxy=tunnel.place)
-            self.assertEqual(get(Network(named, Limits()), "http://registry.test/v2/")[2], b"plain")
+            self.assertEqual(get(Network(named), "http://registry.test/v2/")[2], b"plain")
             self.assertTrue(proxy.seen[0].startswith("GET http://registry.test/v2/ "))
-            end, head, body = get(Network(by, Limits()), "https://registry.test/v2/")
+            end, head, body = get(Network(by), "https://registry.test/v2/")
             self.assertEqual((end, body, head["headers"]), ("end", b"secure", [["content-length", "6"]]))
             with mock.patch.dict(os.environ, HTTP_PROXY=f"http://{proxy.place}", HTTPS_PROXY=f"http://{tunnel.place}", NO_PROXY="away.test"):
                 before = len(proxy.seen), len(tunnel.seen)
-                self.assertEqual(get(Network(Access("registry.test", True), Limits()), "http://registry.test/v2/")[2], b"plain")
-                self.assertEqual(get(Network(Access("registry.test", False, authority=pem), Limits()), "https://registry.test/v2/")[2], b"secure")
+                self.assertEqual(get(Network(Access("registry.test", True)), "http://registry.test/v2/")[2], b"plain")
+                self.assertEqual(get(Network(Access("registry.test", False, authority=pem)), "https://registry.test/v2/")[2], b"secure")
                 self.assertEqual((len(proxy.seen), len(tunnel.seen)), (before[0] + 1, before[1] + 1))
-                self.assertEqual(get(Network(Access("away.test", False), Limits()), "https://away.test/v2/")[0], "failed")
+                self.assertEqual(get(Network(Access("away.test", False)), "https://away.test/v2/")[0], "failed")
                 self.assertEqual(get(network_of(server), f"http://{server.place}/v2/")[2], b"plain")  # loopback is near by itself
-                other = Network(Access("registry.test", False), Limits())
+                other = Network(Access("registry.test", False))
                 for url in ("https://10.0.0.1/x", "https://localhost/x", f"https://127.0.0.1:{server.port}/x"):
                     self.assertEqual(get(other, url)[0], "failed")
                 self.assertEqual((len(proxy.seen), len(tunnel.seen)), (before[0] + 1, before[1] + 1))
@@ -587,9 +586,9 @@ class Ways(unittest.TestCase):
                 open(theirs, "w", 1, encoding="utf-8") as terminal, mock.patch.object(sys, "stderr", terminal):
             network = network_of(server)
             get(network, f"http://{server.place}{LAYER}")
-            network.clear()
+            progress.end()
             self.assertEqual(get(network, f"http://{server.place}{SECOND}")[0], "failed")
-            network.clear()
+            progress.end()
             print("sentence", file=sys.stderr)
         told = b""
         while not told.endswith(b"sentence\r\n"):

@@ -157,8 +157,7 @@ rules:
             self.assertEqual(policy.for_reference(reference).annotations, {"rule": str(number)}, reference)
         for reference in ("r.example/teams", "r.example/other", "r.example", "x.r.example/team/app", "r.example:443/team/app", "alpine", "other/busybox",
                           "r.example@x/team/app", "r.examples/team/app"):
-            with self.assertRaisesRegex(ValueError, "is covered by no rule of"):
-                policy.for_reference(reference)
+            self.assertIsNone(policy.for_reference(reference), reference)
 
     def test_keys_are_beside_the_policy(self):
         (self.folder / "deeper").mkdir()

@@ -1,0 +1,57 @@
+"""The options of the command, by options.toml: with their help, for the command line, the completion of shells and the manual page."""
+import argparse
+import contextlib
+import tomllib
+from pathlib import Path
+from typing import Any, NoReturn
+
+from host.release import VERSION, described
+from host.terminal import STATUSES, End
+
+PURPOSE = "Pulls a container image only if it has a signature that you trust."
+
+
+class Parser(argparse.ArgumentParser):
+    def __init__(self, **more: Any) -> None:
+        super().__init__(**more, allow_abbrev=False)
+        self.register("type", "path", Path)
+        self.register("type", "seconds", seconds)
+        self.register("type", "int", int)
+
+    def error(self, message: str) -> NoReturn:
+        raise End(2, f"{message}; see {self.prog} --help")
+
+
+class Version(argparse.Action):
+    def __call__(self, parser: argparse.ArgumentParser, *_: object) -> NoReturn:
+        try:
+            print(f"roksnaep {VERSION}, core {described('roksnaep-core')}")
+        except (OSError, ValueError) as error:
+            raise End(2, str(error)) from None
+        parser.exit()
+
+
+def seconds(text: str) -> float:
+    if not 0 <= float(text) <= 1e7:
+        raise ValueError("not between 0 and 10000000")
+    return float(text)
+
+
+def parser() -> argparse.ArgumentParser:
+    table = tomllib.loads((Path(__file__).parent / "options.toml").read_text())
+    made = Parser(prog="roksnaep", description=PURPOSE, epilog=STATUSES)
+    made.add_argument("--version", action=Version, nargs=0, help="prints the version, and which core runs")
+    with contextlib.suppress(ImportError):
+        __import__("shtab").add_argument_to(made, "--print-completion", help="writes the completion script of a shell")
+    words = made.add_subparsers(dest="word", required=True, metavar="pull|verify|check", help="each has its own --help")
+    for word in ("pull", "verify", "check"):
+        of = table[word]
+        description = f"{of['help'][0].upper()}{of['help'][1:]}."
+        one = words.add_parser(word, help=of["help"], usage=f"roksnaep {word} {of['place']} [options]", description=description,
+                               epilog=f"{of['examples']}\n{STATUSES}", formatter_class=argparse.RawDescriptionHelpFormatter)
+        one.add_argument("place", metavar=of["place"])
+        for title in of["groups"]:
+            group = one.add_argument_group(title)
+            for names, option in table["options"][title].items():
+                group.add_argument(*names.split(), **option)
+    return made

@@ -1,0 +1,45 @@
+"""What the command writes on its standard streams, and the statuses that it ends with. Nothing that is written moves a terminal's cursor."""
+import json
+import sys
+from typing import Any
+
+STATUSES = "exit status: 0 success, 1 refused, 2 wrong usage, 3 invalid reference, 4 stopped or failed, 5 not written, 6 out of memory"
+OUTCOMES = {1: "refused", 2: "usage", 3: "reference", 4: "stopped", 5: "unwritten", 6: "memory"}
+
+
+class End(BaseException):
+    """With which status the command ends instead of going on, and why."""
+
+
+def printable(text: str) -> str:
+    return "".join(c if c.isprintable() else "?" for c in text)
+
+
+def tell(words: list[str], place: str, status: int, sentence: str, rest: dict[str, Any]) -> None:
+    """Writes how the command ended: the sentence, or one JSON object."""
+    if "--json" in words:
+        outcome = OUTCOMES.get(status) or sentence.partition(" ")[0]
+        more = {name: value for name, value in rest.items() if name != "frame"}
+        print(json.dumps({"outcome": outcome, "status": status, "reference": place, "sentence": sentence} | more), flush=True)
+    else:
+        print(printable(sentence), file=sys.stderr if status else sys.stdout, flush=True)
+    if {"-v", "--verbose"} & {*words} and "report" in rest:
+        print(*(printable(line) for line in rest["report"].split("\n")), sep="\n", end="", file=sys.stderr, flush=True)
+
+
+class Progress:
+    """A line on a terminal, which the next one replaces until it is ended."""
+    is_shown = False
+
+    def show(self, text: str) -> None:
+        if sys.stderr.isatty():
+            print(f"\r{printable(text)}", end="\x1b[K", file=sys.stderr, flush=True)
+            self.is_shown = True
+
+    def end(self) -> None:
+        if self.is_shown:
+            print(file=sys.stderr, flush=True)
+        self.is_shown = False
+
+
+progress = Progress()
