@@ -1141,6 +1141,173 @@ def generated():
     gen("two_counts", ["3", "3"], [], 2)
 
 
+# ---- admission reviews
+
+
+def container(name, image, **others):
+    return dict({"name": name, "image": image}, **others)
+
+
+def admission(containers, uid="u1", **others):
+    """A review of a Pod with these containers and these other members of its specification."""
+    spec = {"containers": containers}
+    spec.update(others)
+    return {"apiVersion": "admission.k8s.io/v1", "kind": "AdmissionReview", "request": {"uid": uid, "object": {"spec": spec}}}
+
+
+def canonical(value):
+    return json.dumps(value, separators=(",", ":"), ensure_ascii=False, sort_keys=True)
+
+
+def respond(uid, denials):
+    """The response with these denials: each a name and a cause on one line."""
+    found = {"allowed": not denials, "uid": uid}
+    if denials:
+        found["status"] = {"message": "; ".join(f"{name}: {cause}" for name, cause in denials)}
+    return canonical({"apiVersion": "admission.k8s.io/v1", "kind": "AdmissionReview", "response": found})
+
+
+def review_settings(answers=None, **others):
+    """A case of the image in memory, or of these answers, without a reference."""
+    if answers is None:
+        others.setdefault("shelf", base_shelf())
+    return {n: v for n, v in json.loads(case(answers, [payload()], **others)).items() if n != "reference"}
+
+
+def review(title, asked, denials=(), uid="u1", settings=None):
+    stdin = compact({"settings": review_settings() if settings is None else settings, "review": asked})
+    write(f"reviews/{title}", stdin, [respond(uid, list(denials))], 1 if denials else 0, args=["review"])
+
+
+def no_review(title, value):
+    write(f"reviews/{title}", value if isinstance(value, str) else compact(value), [], 3, args=["review"])
+
+
+def missing(tag="v2"):
+    """The cause of an image whose tag the registry does not have."""
+    return f'RegistryFetchManifestError "{REGISTRY}/app:{tag}" ServerError 404 "{BASE}app/manifests/{tag}" 0'
+
+
+def api_server_review(images):
+    """A review as an API server of version 1.32 sends it when a Pod is created."""
+    pod = {"group": "", "version": "v1"}
+    fields = {"f:metadata": {"f:labels": {".": {}, "f:app": {}}}, "f:spec": {"f:containers": {'k:{"name":"app"}': {".": {}, "f:image": {}, "f:name": {}}}}}
+    managed = {"manager": "kubectl-create", "operation": "Update", "apiVersion": "v1", "time": "2024-12-11T09:00:00Z", "fieldsType": "FieldsV1", "fieldsV1": fields}
+    metadata = {"name": "app", "namespace": "web", "uid": "a1", "creationTimestamp": "2024-12-11T09:00:00Z", "labels": {"app": "app"}, "annotations": {"note": "x"}, "managedFields": [managed]}
+    token = {"name": "kube-api-access", "mountPath": "/var/run/secrets/kubernetes.io/serviceaccount", "readOnly": True}
+    others = {"ports": [{"containerPort": 80, "protocol": "TCP"}], "resources": {"limits": {"cpu": "500m", "memory": "64Mi"}}, "volumeMounts": [token], "imagePullPolicy": "Always", "terminationMessagePath": "/dev/termination-log", "securityContext": {"runAsNonRoot": True, "runAsUser": 1000}}
+    spec = {
+        "volumes": [{"name": "kube-api-access", "projected": {"sources": [{"serviceAccountToken": {"expirationSeconds": 3607, "path": "token"}}], "defaultMode": 420}}],
+        "containers": [container(name, image, **others) for name, image in images],
+        "restartPolicy": "Always", "terminationGracePeriodSeconds": 30, "dnsPolicy": "ClusterFirst", "serviceAccountName": "default", "serviceAccount": "default",
+        "securityContext": {}, "schedulerName": "default-scheduler", "tolerations": [{"key": "node.kubernetes.io/not-ready", "operator": "Exists", "effect": "NoExecute", "tolerationSeconds": 300}],
+        "priority": 0, "enableServiceLinks": True, "preemptionPolicy": "PreemptLowerPriority",
+    }
+    user = {"username": "kubernetes-admin", "groups": ["kubeadm:cluster-admins", "system:authenticated"], "extra": {"authentication.kubernetes.io/credential-id": ["X509SHA256=ab"]}}
+    request = {
+        "uid": "705ab4f5-6393-11e8-b7cc-42010a800002", "kind": dict(pod, kind="Pod"), "resource": dict(pod, resource="pods"), "requestKind": dict(pod, kind="Pod"), "requestResource": dict(pod, resource="pods"),
+        "name": "app", "namespace": "web", "operation": "CREATE", "userInfo": user,
+        "object": {"kind": "Pod", "apiVersion": "v1", "metadata": metadata, "spec": spec, "status": {"phase": "Pending", "qosClass": "Burstable"}},
+        "oldObject": None, "dryRun": False, "options": {"kind": "CreateOptions", "apiVersion": "meta.k8s.io/v1", "fieldManager": "kubectl-create", "fieldValidation": "Strict"},
+    }
+    return {"kind": "AdmissionReview", "apiVersion": "admission.k8s.io/v1", "request": request}
+
+
+def reviews():
+    image, other = f"{REGISTRY}/app:v1", f"{REGISTRY}/app:v2"
+    one = [container("a", image)]
+    review("one_image", admission(one))
+    review("an_image_that_is_missing", admission(one + [container("b", other)]), [("b", missing())])
+    review("a_text_that_is_no_reference", admission(one + [container("b", "a:t/b")]), [("b", 'NotAReference "a:t/b"')])
+    review("an_image_twice", admission(one * 2))
+    review("a_denied_image_between_two_allowed", admission([container("a", image), container("b", other), container("c", image)]), [("b", missing())])
+    review("all_images_denied", admission([container("a", other), container("b", f"{REGISTRY}/app:v3")]), [("a", missing()), ("b", missing("v3"))])
+    review("a_digest", admission([container("a", f"{REGISTRY}/app@{digest(IMAGE)}"), container("b", f"{REGISTRY}/app:v1@{digest(IMAGE)}")]))
+    hub = "http://index.docker.io/v2/library/busybox/manifests/latest"
+    review("a_short_name_of_docker_hub", admission([container("a", "busybox")]), [("a", f'RegistryFetchManifestError "docker.io/library/busybox:latest" ServerError 404 "{hub}" 0')])
+    review("a_repository_in_upper_case", admission([container("a", f"{REGISTRY}/App:v1")]), [("a", f'NotAReference "{REGISTRY}/App:v1"')])
+    # The order is that of initContainers, containers, ephemeralContainers, whatever their order in the specification.
+    both = admission([container("b", other)], ephemeralContainers=[container("c", f"{REGISTRY}/app:v3")], initContainers=[container("a", f"{REGISTRY}/app:v4")])
+    review("containers_of_three_kinds", both, [("a", missing("v4")), ("b", missing()), ("c", missing("v3"))])
+    review("an_init_container_that_is_denied", admission(one, initContainers=[container("i", other)]), [("i", missing())])
+    review("an_ephemeral_container_that_is_denied", admission(one, ephemeralContainers=[container("e", other)]), [("e", missing())])
+    review("empty_lists_beside_the_containers", admission(one, initContainers=[], ephemeralContainers=[]))
+    odd = 'x"\u2028\u0001'
+    review("a_message_with_quotes_and_controls", admission([container('a"\u0001\u2028', odd)]), [('a"\u0001\u2028', "NotAReference " + compact(odd))])
+    review("two_names_that_are_equal", admission([container("a", other)] * 2), [("a", missing())] * 2)
+    review("an_empty_uid", admission(one, uid=""), uid="")
+    review("an_api_server_1_32", api_server_review([("app", image)]), uid="705ab4f5-6393-11e8-b7cc-42010a800002")
+    review("an_api_server_1_32_with_an_unsigned_image", api_server_review([("app", image), ("side", other)]), [("side", missing())], uid="705ab4f5-6393-11e8-b7cc-42010a800002")
+    noted = admission(one)
+    noted["request"]["object"]["metadata"] = {"annotations": {"a": 1}}
+    review("a_number_in_an_annotations_place", noted)
+    # What the policy says.
+    review("no_constraint", admission(one + [container("b", "B")]), [("a", "EmptyPolicy"), ("b", 'NotAReference "B"')], settings=review_settings(constraints=[]))
+    review("another_key", admission(one), [("a", f'Unsatisfied "{digest(IMAGE)}"')], settings=review_settings(keys=["k2"]))
+    review("without_caching", admission(one), settings=review_settings(caching=False))
+    # What the registry answers, one image after the other.
+    answers, _, _ = base_run()
+    review("answers_for_one_of_two_images", admission([container("a", image), container("b", image)]), [("b", f'RegistryFetchManifestError "{image}" TransportFault')], settings=review_settings(answers))
+    review("no_answer_for_a_text_that_is_no_reference", admission([container("a", "A"), container("b", image)]), [("a", 'NotAReference "A"')], settings=review_settings(answers))
+    unread_reviews(one)
+
+
+def unread_reviews(one):
+    """Input that is not a review with settings."""
+    good = admission(one)
+
+    def changed(path, value):
+        found = json.loads(compact(good))
+        at = found
+        for name in path[:-1]:
+            at = at[name]
+        if value is None:
+            del at[path[-1]]
+        else:
+            at[path[-1]] = value[0]
+        return found
+
+    spec = ["request", "object", "spec"]
+    nulls = [("uid", ["request", "uid"]), ("object", ["request", "object"]), ("spec", spec), ("containers", spec + ["containers"])]
+    for title, path in nulls:
+        no_review(f"no_{title}", {"settings": review_settings(), "review": changed(path, None)})
+        no_review(f"{title}_null", {"settings": review_settings(), "review": changed(path, [None])})
+    others = [
+        ("another_kind", ["kind"], "Pod"),
+        ("another_version", ["apiVersion"], "admission.k8s.io/v1beta1"),
+        ("a_uid_that_is_no_text", ["request", "uid"], 1),
+        ("no_container", spec + ["containers"], []),
+        ("containers_that_are_no_list", spec + ["containers"], {}),
+        ("a_container_without_image", spec + ["containers"], [{"name": "a"}]),
+        ("a_container_without_name", spec + ["containers"], [{"image": "a"}]),
+        ("an_image_that_is_no_text", spec + ["containers"], [{"name": "a", "image": None}]),
+        ("init_containers_of_null", spec + ["initContainers"], None),
+        ("ephemeral_containers_of_null", spec + ["ephemeralContainers"], None),
+        ("an_init_container_without_image", spec + ["initContainers"], [{"name": "i"}]),
+        ("a_float_in_an_annotations_place", ["request", "object", "metadata"], {"annotations": {"a": 1.5}}),
+    ]
+    for title, path, value in others:
+        no_review(title, {"settings": review_settings(), "review": changed(path, [value])})
+    deleted = changed(["request", "object"], [None])
+    deleted["request"].update(operation="DELETE", oldObject=good["request"]["object"])
+    no_review("a_deletion", {"settings": review_settings(), "review": deleted})
+    no_review("a_review_alone", good)
+    no_review("settings_alone", {"settings": review_settings()})
+    no_review("settings_and_a_review_beside_another_member", {"settings": review_settings(), "review": good, "at": 1})
+    no_review("input_that_is_no_json", "{")
+    for title, settings in [
+        ("settings_with_a_reference", dict(review_settings(), reference=f"{REGISTRY}/app:v1")),
+        ("settings_with_a_reference_of_null", dict(review_settings(), reference=None)),
+        ("settings_with_two_moments", review_settings(moments=[100, 200])),
+        ("settings_without_a_moment", review_settings(moments=[])),
+        ("settings_that_cache", review_settings(caching=True)),
+        ("settings_with_another_member", dict(review_settings(), at=1)),
+        ("settings_without_keys", {n: v for n, v in review_settings().items() if n != "keys"}),
+        ("settings_that_are_no_object", []),
+    ]:
+        no_review(title, {"settings": settings, "review": good})
+
+
 TABLES = {
     "pulls": pulls,
     "shelves": shelves,
@@ -1159,9 +1326,13 @@ TABLES = {
     "input": inputs,
     "canon": canonical_texts,
     "generated": generated,
+    "reviews": reviews,
 }
 
 if __name__ == "__main__":
+    from locks import locks
+
+    TABLES["locks"] = locks
     for table, make in TABLES.items():
         shutil.rmtree(os.path.join(HERE, table), ignore_errors=True)
         make()

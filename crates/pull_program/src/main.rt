@@ -24,9 +24,10 @@ fn arguments<R: Env + Alloc>(rt: &R, alloc: Global) -> io::Result<List<Text>> {
 fn advice(status: u8) -> &'static str {
     match status {
         2 =>
-            "usage: pull_program with pull < CASE, canon < JSON, check < INPUT, or gen N with N from 1 to 1000",
+            "usage: pull_program with pull, canon, check, lock, lockcheck or review, each < INPUT, or gen N with N from 1 to \
+             1000",
         3 =>
-            "the input is not a case (see crates/recorded_case/README.md for its members), not a chain, or not JSON",
+            "the input is not a case (see crates/recorded_case/README.md for its members), or not what the subcommand reads",
         4 => "the input could not be read",
         5 => "the output could not be written",
         6 => "out of memory",

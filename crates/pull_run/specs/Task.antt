@@ -3,12 +3,17 @@ use Rattle.std.specs.Prelude.{ℕ, List, Option}
 use Rattle.json_values.specs.JsonText.{json_of}
 use Rattle.recorded_case.specs.Case.{case_in}
 use Rattle.recorded_chain.specs.Input.{chain_input_in}
+use Rattle.locked_cases.specs.Checks.{ChecksLock}
+use Rattle.locked_cases.specs.Input.{cases_in, check_in}
+use Rattle.locked_cases.specs.Locks.{LocksCases}
+use Rattle.reviewed_cases.specs.Input.{review_input_in}
+use Rattle.reviewed_cases.specs.Responses.{ReportsReview}
 use Rattle.pull_run.specs.Canon.{PrintsValue}
 use Rattle.pull_run.specs.Check.{PrintsVerdict}
 use Rattle.pulled_cases.specs.Pulls.{ReportsCase}
 use Rattle.pulled_cases.specs.declared.report.Report.{Report}
 use Rattle.pull_run.specs.declared.word.Word.{Word}
-use Rattle.pull_run.specs.declared.word.Word.TheVariants.{Pull, Canon, Check}
+use Rattle.pull_run.specs.declared.word.Word.TheVariants.{Pull, Canon, Check, Lock, LockCheck, Review}
 
 -- what the input must parse as, and the output for it
 pub record Task : Type 1 where
@@ -24,3 +29,6 @@ abbrev pub task_of : Word → Task
 task_of Pull = task_by case_in ReportsCase
 task_of Canon = task_by json_of PrintsValue
 task_of Check = task_by chain_input_in PrintsVerdict
+task_of Lock = task_by cases_in LocksCases
+task_of LockCheck = task_by check_in ChecksLock
+task_of Review = task_by review_input_in ReportsReview

@@ -1,5 +1,5 @@
-//! The subcommands of the program: pulls of a recorded case with their report, canonical texts of JSON, and whether a
-//! recorded chain holds.
+//! The subcommands of the program: pulls of a recorded case with their report, canonical texts of JSON, whether a
+//! recorded chain holds, lock files, and responses to admission reviews.
 #![tactic(auto)]
 
 mod canon;
@@ -7,9 +7,11 @@ mod check;
 mod command;
 mod generated;
 mod input;
+mod lock;
 mod output;
 mod program;
 mod pull;
+mod review;
 mod status;
 mod task;
 mod word;

@@ -14,8 +14,10 @@ use crate::task::Task;
 use crate::word::Word;
 use byte_streams::{Sink, Source};
 use json_values::{Json, Text};
+use locked_cases::{CheckInput, LockInput};
 use recorded_case::Case;
 use recorded_chain::ChainInput;
+use reviewed_cases::ReviewInput;
 use std::alloc::Global;
 
 // Reads the input, computes the task's output, and writes it.
@@ -41,6 +43,9 @@ fn serve_word<S: Source, K: Sink>(alloc: Global, word: Word, source: &mut S, sin
         Word::Pull => serve::<Case, S, K>(alloc, source, sink),
         Word::Canon => serve::<Json, S, K>(alloc, source, sink),
         Word::Check => serve::<ChainInput, S, K>(alloc, source, sink),
+        Word::Lock => serve::<LockInput, S, K>(alloc, source, sink),
+        Word::LockCheck => serve::<CheckInput, S, K>(alloc, source, sink),
+        Word::Review => serve::<ReviewInput, S, K>(alloc, source, sink),
     }
 }
 

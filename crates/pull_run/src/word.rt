@@ -13,6 +13,12 @@ pub enum Word {
     Canon,
     /// Writes whether the chain in the input holds.
     Check,
+    /// Pulls the images of the cases in the input, and writes the lock file of them.
+    Lock,
+    /// Writes whether the lock file in the input holds.
+    LockCheck,
+    /// Writes the response to the admission review in the input.
+    Review,
 }
 
 /// Returns the subcommand that these arguments select, or `None` if they match no supported form.
@@ -23,6 +29,9 @@ pub fn word_of(words: &[Text]) -> Option<Word>
         [word] if word.as_str() == "pull" => Some(Word::Pull),
         [word] if word.as_str() == "canon" => Some(Word::Canon),
         [word] if word.as_str() == "check" => Some(Word::Check),
+        [word] if word.as_str() == "lock" => Some(Word::Lock),
+        [word] if word.as_str() == "lockcheck" => Some(Word::LockCheck),
+        [word] if word.as_str() == "review" => Some(Word::Review),
         _ => None,
     }
 }

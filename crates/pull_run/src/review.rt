@@ -1,0 +1,28 @@
+// The subcommand `review`: the response to an admission review.
+ghost use Rattle.std.specs.Prelude.{◌≡◌, IfOk, IfSome};
+ghost use Rattle.reviewed_cases.specs.Input.{IsForReview, review_input_in};
+ghost use Rattle.reviewed_cases.specs.Responses.{ReportsReview};
+
+use crate::task::Task;
+use pulled_cases::Report;
+use reviewed_cases::{ReviewInput, read_review_input, review_case};
+use std::alloc::{AllocError, Global};
+
+impl Task for ReviewInput {
+    ghost reads = { review_input_in };
+
+    ghost Valid = { IsForReview };
+
+    ghost Gives = { ReportsReview };
+
+    fn read(alloc: Global, bytes: &[u8]) -> Result<Option<ReviewInput>, AllocError>
+        ensures exact { IfOk result (λ found. found ≡ review_input_in bytes.now) }
+        ensures valid { IfOk result (λ found. IfSome found IsForReview) }
+    {
+        read_review_input(alloc, bytes)
+    }
+
+    fn make(self, alloc: Global) -> Result<Report, AllocError> {
+        review_case(alloc, self)
+    }
+}
