@@ -1,7 +1,7 @@
 """Whether a chain holds, decided a second time: from recorded bytes alone, with nothing of the program and in other terms than its own.
 
-Run by itself it decides the recorded cases below tests/rows: each image that is answered there has a chain that holds, and each recorded chain
-holds or fails as it is recorded. `holds(case, chain)` is what is wrong with a chain as the program's word `check` reads it, or none. `chains(case, lines)` are the chains that a report's
+Run by itself it decides the recorded cases below tests/rows: each image that is answered there, or is one of an allowed Pod, has a chain that holds,
+and each recorded chain holds or fails as it is recorded. `holds(case, chain)` is what is wrong with a chain as the program's word `check` reads it, or none. `chains(case, lines)` are the chains that a report's
 image may have, made of the bodies that the case records.
 """
 import base64
@@ -221,6 +221,42 @@ def chains(case, lines):
                 yield chain | {"signature": {"kind": kind, "content": content, "annotations": descriptor.get("annotations") or {}}}
 
 
+def digests_of(case, text):
+    """The digests that the registry may have named for an image of a Pod: its own, that of its tag, or those of the answers' headers."""
+    name, _, own = text.partition("@")
+    if own:
+        return [own]
+    if "shelf" in case:
+        return [case["shelf"]["tags"].get(name.rpartition(":")[2])]
+    headers = [header for answer in case["answers"] if answer != "fail" for header in answer.get("headers", [])]
+    return [value for field, value in headers if field == "docker-content-digest"]
+
+
+def is_allowed(case, text):
+    """Whether an image of a Pod has a chain, made of a manifest that the registry names for it and of any signature layer."""
+    case = case | {"reference": text}
+    held = bodies(case)
+    listed = [descriptor for body in held for descriptor in object_in(body).get("layers") or []]
+    signatures = [descriptor["digest"] for descriptor in listed if descriptor["mediaType"] in (PAYLOAD, BUNDLE)]
+    for digest in digests_of(case, text):
+        for first in (object_in(body) for body in held if digest and names(digest, body)):
+            parts = [f"ok {digest}", f"manifest {digest}", f"config {first['config']['digest']}"] + [f"layer {layer['digest']}" for layer in first["layers"]]
+            if any(holds(case, chain) is None for name in signatures for chain in chains(case, parts + [f"signature {name}"])):
+                return True
+    return False
+
+
+def canonical(value):
+    """The canonical text of a value without numbers, whose names are ASCII."""
+    return json.dumps(value, separators=(",", ":"), ensure_ascii=False, sort_keys=True)
+
+
+def images_of(review):
+    """The texts of the images of a review's Pod."""
+    spec = review["request"]["object"]["spec"]
+    return [entry["image"] for name in ("initContainers", "containers", "ephemeralContainers") for entry in spec.get(name, [])]
+
+
 def reports(out):
     """The lines of the report of each moment."""
     found = []
@@ -254,6 +290,10 @@ def main():
             pulled = [lines for lines in reports(out) if any(line.startswith("ok ") for line in lines)]
             images += len(pulled)
             fails = any(all(holds(found, chain) for chain in chains(found, lines)) for lines in pulled)
+        elif word == "review" and status == 0:
+            asked = images_of(found["review"])
+            images += len(asked)
+            fails = not all(is_allowed(found["settings"], text) for text in asked)
         else:
             continue
         if fails:

@@ -22,7 +22,7 @@ use Rattle.oci_protocol.proofs.RunFacts.{EveryRun-done, EveryRun-bind}
 use Rattle.engine_terms.specs.Contexts.{Context}
 use Rattle.engine_rows.specs.declared.image.ImageData.{ImageData}
 use Rattle.engine_laws.proofs.DigestAnswers.{answered_before}
-use Rattle.engine_laws.proofs.DocumentAnswers.{body_after}
+use Rattle.request_laws.proofs.DocumentAnswers.{body_after}
 use Rattle.engine_rows.specs.Answered.{DigestAnswered}
 use Rattle.registry_calls.specs.declared.error.SigstoreError.{SigstoreError}
 use Rattle.registry_calls.specs.Error.{is_memory}

@@ -7,7 +7,7 @@ use Rattle.oci_protocol.specs.Runs.{Meets, Told}
 use Rattle.engine_rows.specs.Confined.{Within}
 use Rattle.engine_rows.specs.Held.{Entry, pulling}
 use Rattle.engine_laws.proofs.Confines.{ConfinesBy, Alone, Beside, confines_by, confines_done, confines_bind, confines_next, confines_lifted, confines_same, confines_call}
-use Rattle.engine_laws.proofs.ShownTokens.{Ended}
+use Rattle.request_laws.proofs.ShownTokens.{Ended}
 use Rattle.registry_cache.specs.Keys.{manifest_key, pull_key, referrers_key}
 use Rattle.registry_calls.specs.Clients.{Kept, Row}
 use Rattle.registry_calls.specs.Calls.{in_words, digest_made, manifest_made, image_made, document_made, blob_made, referrers_made, digest_call, manifest_call, image_call, document_call, blob_call, referrers_call}
@@ -36,9 +36,9 @@ use Rattle.engine_rows.specs.Rows.{Row as Engine, token_given}
 use Rattle.engine_rows.specs.Image.{pull, layers_accepted, layer_of}
 use Rattle.engine_rows.specs.Pulls.{fetch_manifest_digest, pull_manifest, pull_manifest_raw, held_blob}
 use Rattle.engine_rows.specs.Referrers.{pull_referrers}
-use Rattle.engine_laws.proofs.CallConfinement.{Any, given_safe}
+use Rattle.request_laws.proofs.CallConfinement.{Any, given_safe}
 use Rattle.engine_laws.proofs.ReferrersSound.{referrers_sound, same_registry}
-use Rattle.engine_laws.proofs.HeaderCauses.{digest_sound, raw_sound, manifest_sound, image_sound, blob_sound}
+use Rattle.request_laws.proofs.HeaderCauses.{digest_sound, raw_sound, manifest_sound, image_sound, blob_sound}
 use Rattle.registry_calls.specs.declared.error.SigstoreError.{SigstoreError}
 use Rattle.registry_calls.specs.declared.error_context.Called.{Called}
 use Rattle.registry_calls.specs.declared.error_context.Called.TheVariants as calls

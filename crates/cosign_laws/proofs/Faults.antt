@@ -38,7 +38,7 @@ use Rattle.engine_rows.specs.Pulls.{pull_manifest}
 use Rattle.engine_rows.specs.Image.{pull}
 use Rattle.engine_rows.specs.declared.image.ImageData.{ImageData}
 use Rattle.engine_rows.specs.Causes.{DocumentCause, ManifestUrl, OwnDigest}
-use Rattle.engine_laws.proofs.EarlyCauses.{Loose}
+use Rattle.request_laws.proofs.EarlyCauses.{Loose}
 use Rattle.engine_laws.proofs.ImageCauses.{RowCause, image_causes}
 use Rattle.engine_laws.proofs.ManifestCauses.{manifest_causes}
 use Rattle.engine_laws.proofs.CallCauses.{manifest_fault, image_fault}

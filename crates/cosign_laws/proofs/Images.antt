@@ -41,7 +41,7 @@ use Rattle.engine_rows.specs.Rows.{Row as Engine}
 use Rattle.engine_rows.specs.Pulls.{fetch_manifest_digest, pull_manifest_raw, held_blob}
 use Rattle.engine_rows.specs.Image.{is_accepted, all_accepted, layers_accepted, layer_of, config_of}
 use Rattle.engine_rows.specs.Answered.{DigestAnswered, Body, Document, LastBody}
-use Rattle.engine_laws.proofs.DocumentAnswers.{body_before, body_after, raw_shows}
+use Rattle.request_laws.proofs.DocumentAnswers.{body_before, body_after, raw_shows}
 use Rattle.engine_laws.proofs.BlobAnswers.{blob_shows}
 use Rattle.engine_laws.proofs.DigestAnswers.{digest_shows}
 use Rattle.registry_calls.specs.declared.error.SigstoreError.{SigstoreError}

@@ -49,9 +49,9 @@ use Rattle.engine_rows.specs.Pulls.{fetch_manifest_digest, pull_manifest_raw, he
 use Rattle.engine_rows.specs.declared.image.ImageData.{ImageData}
 use Rattle.engine_rows.specs.Image.{is_accepted, all_accepted, layers_accepted, layer_of}
 use Rattle.engine_rows.specs.Causes.{Act, AnswerCause, BlobUrl, ManifestUrl, OwnDigest}
-use Rattle.engine_laws.proofs.BlobCauses.{blob_causes}
-use Rattle.engine_laws.proofs.DocumentCauses.{Accepted, OwnCause, raw_causes}
-use Rattle.engine_laws.proofs.EarlyCauses.{Loose, LooseBlob}
+use Rattle.request_laws.proofs.BlobCauses.{blob_causes}
+use Rattle.request_laws.proofs.DocumentCauses.{Accepted, OwnCause, raw_causes}
+use Rattle.request_laws.proofs.EarlyCauses.{Loose, LooseBlob}
 use Rattle.engine_laws.proofs.CallCauses.{digest_fault, raw_fault, blob_fault}
 use Rattle.engine_laws.proofs.DigestCauses.{digest_causes}
 use Rattle.registry_calls.specs.declared.error.SigstoreError.{SigstoreError}

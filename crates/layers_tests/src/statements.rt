@@ -47,7 +47,8 @@ const STATEMENTS: &[(&str, &str, bool)] = &[
     // {"x":[-1,{"y":18446744073709551615}],"predicateType":"SIGN"}
     (
         STATEMENT,
-        "eyJ4IjpbLTEseyJ5IjoxODQ0Njc0NDA3MzcwOTU1MTYxNX1dLCJwcmVkaWNhdGVUeXBlIjoiaHR0cHM6Ly9zaWdzdG9yZS5kZXYvY29zaWduL3NpZ24vdjEifQ==",
+        "eyJ4IjpbLTEseyJ5IjoxODQ0Njc0NDA3MzcwOTU1MTYxNX1dLCJwcmVkaWNhdGVUeXBlIjoi\
+        aHR0cHM6Ly9zaWdzdG9yZS5kZXYvY29zaWduL3NpZ24vdjEifQ==",
         true,
     ),
     // {"predicateType":"SIGN","x":1.5}
