@@ -1,4 +1,5 @@
 pub mod KeptStates
+pub mod PolicyFirst
 pub mod PushedLayers
 pub mod PushedPayload
 pub mod PushedSignatures

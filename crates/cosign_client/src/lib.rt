@@ -1,9 +1,10 @@
-//! Pulls an image only if a trusted signature stands for it.
+//! Pulls an image, or its documents alone, only if a trusted signature stands for it.
 #![tactic(auto)]
 
 mod asked;
 mod builder;
 mod client;
+mod documents;
 mod signature;
 mod trust_root;
 mod written_client;
@@ -12,6 +13,7 @@ pub use asked::{Asked, ask_for, image_in};
 pub use builder::ClientBuilder;
 pub use client::Client;
 pub use cosign_chain::{VerifiedImage, check_chain, check_links};
+pub use cosign_documents::{VerifiedDocuments, check_documents};
 pub use cosign_rows::{PullRefusal, SkipCause, Skipped, SourceKind, TrustedLayers};
 pub use push_rows::PushResponse;
 pub use signature::{SignatureImage, pushed_signatures_are_found, signature_image};

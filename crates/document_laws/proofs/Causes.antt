@@ -53,12 +53,12 @@ use Rattle.document_laws.proofs.Pulls.{pull_of}
 -- ---- which errors the documents can return
 
 -- the property holds for the error, if there is one
-abbrev OnRefusal : {A E : Type 0} → (E → Type 0) → Result A E → Type 0
+abbrev pub OnRefusal : {A E : Type 0} → (E → Type 0) → Result A E → Type 0
 OnRefusal Q (Ok a) = Unit {0}
 OnRefusal Q (Err e) = Q e
 
 -- the error is the call's own, or out of memory
-abbrev IsOwn : Called → SigstoreError → Type 0
+abbrev pub IsOwn : Called → SigstoreError → Type 0
 IsOwn FetchManifest (sigstore.RegistryFetchManifestError name e) = Unit {0}
 IsOwn Pull (sigstore.RegistryPullError name e) = Unit {0}
 IsOwn PullManifest (sigstore.RegistryPullManifestError name e) = Unit {0}
@@ -133,7 +133,7 @@ manifest_own : (s : Context) (source : Reference) (a : RegistryAuth) (first : Li
 manifest_own s source a first (Image manifest) = done_own (IsOwn Pull) (Ok _) tt
 manifest_own s source a first (ImageIndex index) = entry_own s source a index.manifests
 
-documents_own : (s : Context) (image source : Reference) (a : RegistryAuth) → Ends (OnRefusal (IsOwn Pull)) (image_documents s image source a)
+pub documents_own : (s : Context) (image source : Reference) (a : RegistryAuth) → Ends (OnRefusal (IsOwn Pull)) (image_documents s image source a)
 unfolding image_documents
 documents_own s image source a =
     next_own (IsOwn Pull) (document_call s source a manifest_types) _ (document_own s source a manifest_types) (λ found.
@@ -144,27 +144,27 @@ documents_own s image source a =
 -- ---- the parts of a run
 
 -- a step without a request, and what follows it
-abbrev StepRun : {A B E : Type 0} → Result A E → (A → Proto Kept (Result B E)) → Kept → ℕ → List Exchange → ℕ → Kept → Result B E → Type 0
+abbrev pub StepRun : {A B E : Type 0} → Result A E → (A → Proto Kept (Result B E)) → Kept → ℕ → List Exchange → ℕ → Kept → Result B E → Type 0
 StepRun {A} {B} {E} r f k m c n l x = ((a : A) × (r ≡ Ok a) × Runs (f a) k m c n l x) ⊎ ((e : E) × (r ≡ Err e) × ((let y : Result B E = Err e in y) ≡ x))
 
-step_run : {A B E : Type 0} (r : Result A E) (f : A → Proto Kept (Result B E)) (k l : Kept) (m n : ℕ) (c : List Exchange) (x : Result B E) → Runs (Done r >>= f) k m c n l x → StepRun r f k m c n l x
+pub step_run : {A B E : Type 0} (r : Result A E) (f : A → Proto Kept (Result B E)) (k l : Kept) (m n : ℕ) (c : List Exchange) (x : Result B E) → Runs (Done r >>= f) k m c n l x → StepRun r f k m c n l x
 unfolding bind
 step_run (Ok a) f k l m n c x run = inl (a, refl, run)
 step_run (Err e) f k l m n c x run = inr (e, refl, (Runs-done (Err e) k m c n l x run).2)
 
 -- nothing follows a result
-ended : {A : Type 0} (x : A) (k l : Kept) (m n : ℕ) (c : List Exchange) (a : A) → Runs (Done x) k m c n l a → (c ≡ []) × (m ≡ n) × (k ≡ l) × (x ≡ a)
+pub ended : {A : Type 0} (x : A) (k l : Kept) (m n : ℕ) (c : List Exchange) (a : A) → Runs (Done x) k m c n l a → (c ≡ []) × (m ≡ n) × (k ≡ l) × (x ≡ a)
 unfolding Runs
 ended x k l m n [] a run = (refl, run.0, run.1, run.2)
 ended x k l m n (e ∷ c) a run = absurd run
 
 -- a part, as one of the whole pull
-record PartRun {A : Type 0} (p : Row A) (k : Kept) (m : ℕ) (c : List Exchange) (n : ℕ) (l : Kept) (x : Result A PullRefusal) : Type 0 where
-  answer : Result A SigstoreError
-  run : Runs p k m c n l answer
-  is : as_whole answer ≡ x
+pub record PartRun {A : Type 0} (p : Row A) (k : Kept) (m : ℕ) (c : List Exchange) (n : ℕ) (l : Kept) (x : Result A PullRefusal) : Type 0 where
+  pub answer : Result A SigstoreError
+  pub run : Runs p k m c n l answer
+  pub is : as_whole answer ≡ x
 
-part_run : {A : Type 0} (p : Row A) (k l : Kept) (m n : ℕ) (c : List Exchange) (x : Result A PullRefusal) → Runs (part_of p) k m c n l x → PartRun p k m c n l x
+pub part_run : {A : Type 0} (p : Row A) (k l : Kept) (m n : ℕ) (c : List Exchange) (x : Result A PullRefusal) → Runs (part_of p) k m c n l x → PartRun p k m c n l x
 unfolding part_of
 part_run p k l m n c x run =
     let t = Runs-parts p (λ r. Done (as_whole r)) k m c n l x run in
@@ -177,17 +177,17 @@ part_run p k l m n c x run =
     }
 
 -- a part that was refused, or what follows its result
-record NextRun {A B E : Type 0} (p : Proto Kept (Result A E)) (f : A → Proto Kept (Result B E)) (k : Kept) (m : ℕ) (c : List Exchange) (n : ℕ) (l : Kept) (x : Result B E) : Type 0 where
-  first : List Exchange
-  second : List Exchange
-  joined : c ≡ first ++ second
-  between : Kept
-  count : ℕ
-  answer : A
-  runs_first : Runs p k m first count between (Ok answer)
-  runs_second : Runs (f answer) between count second n l x
+pub record NextRun {A B E : Type 0} (p : Proto Kept (Result A E)) (f : A → Proto Kept (Result B E)) (k : Kept) (m : ℕ) (c : List Exchange) (n : ℕ) (l : Kept) (x : Result B E) : Type 0 where
+  pub first : List Exchange
+  pub second : List Exchange
+  pub joined : c ≡ first ++ second
+  pub between : Kept
+  pub count : ℕ
+  pub answer : A
+  pub runs_first : Runs p k m first count between (Ok answer)
+  pub runs_second : Runs (f answer) between count second n l x
 
-next_run : {A B E : Type 0} (p : Proto Kept (Result A E)) (f : A → Proto Kept (Result B E)) (k l : Kept) (m n : ℕ) (c : List Exchange) (e : E) → Runs (p >>= f) k m c n l (Err e) → Runs p k m c n l (Err e) ⊎ NextRun p f k m c n l (Err e)
+pub next_run : {A B E : Type 0} (p : Proto Kept (Result A E)) (f : A → Proto Kept (Result B E)) (k l : Kept) (m n : ℕ) (c : List Exchange) (e : E) → Runs (p >>= f) k m c n l (Err e) → Runs p k m c n l (Err e) ⊎ NextRun p f k m c n l (Err e)
 next_run {A} {B} {E} p f k l m n c e run = by_answer t.answer t.runs_first t.runs_second where
   t : Parts p (unless_refused f) k m c n l (Err e)
   t = Runs-parts p (unless_refused f) k m c n l (Err e) run
@@ -216,7 +216,7 @@ module _ {V : Type 0} {H : V → Type 0} (policy_context : PolicyContext V H) (s
     by_answer (Ok own) run is = let same : own ≡ found = cc is in subst (λ (x : TrustedLayers). Runs search k m c n l (Ok x)) same run
     by_answer (Err e) run is = absurd (cc is)
 
-  collected_found : (k l : Kept) (m n : ℕ) (c : List Exchange) (found : TrustedLayers) → Runs (collected policy_context s image a) k m c n l (Ok found) → Found policy_context s image a (snapshot k m) c (snapshot l n) found
+  pub collected_found : (k l : Kept) (m n : ℕ) (c : List Exchange) (found : TrustedLayers) → Runs (collected policy_context s image a) k m c n l (Ok found) → Found policy_context s image a (snapshot k m) c (snapshot l n) found
   unfolding collected
   collected_found k l m n c found run = after_policy (step_run (constrained (is_unconstrained policy_context.policy)) (λ u. reading) k l m n c (Ok found) run) where
     after_reading : StepRun (readable image) (λ u. part_of search) k m c n l (Ok found) → Found policy_context s image a (snapshot k m) c (snapshot l n) found

@@ -1,4 +1,9 @@
+pub mod Begins
 pub mod Causes
+pub mod Collected
+pub mod Decided
+pub mod DecidedFaults
+pub mod DecidedKeeps
 pub mod Pulled
 pub mod Pulls
 pub mod Same

@@ -1,5 +1,5 @@
 -- A pull of the image decides the same documents over the same conversation.
-use Rattle.std.proofs.Common.{◌≡◌, ℕ, List, Result, Ok, Err, IfOk, refl, subst, ap}
+use Rattle.std.proofs.Common.{◌≡◌, ℕ, List, Result, Ok, Err, IfOk, sym, subst, ap}
 use Rattle.oci_names.specs.declared.reference.Reference.{Reference}
 use Rattle.oci_auth.specs.declared.auth.RegistryAuth.{RegistryAuth}
 use Rattle.oci_manifests.specs.declared.blob.Config.{Config}
@@ -8,6 +8,7 @@ use Rattle.oci_transport.specs.Link.{Link}
 use Rattle.oci_transport.specs.declared.message.Exchange.{Exchange}
 use Rattle.oci_protocol.specs.Proto.{Proto, Done}
 use Rattle.oci_protocol.specs.Runs.{Runs, Meets, Told}
+use Rattle.oci_protocol.proofs.Laws.{Meets-next}
 use Rattle.oci_protocol.proofs.Parts.{Runs-done, Runs-ok-parts}
 use Rattle.engine_terms.specs.Contexts.{Context}
 use Rattle.registry_calls.specs.Clients.{Kept}
@@ -23,7 +24,7 @@ use Rattle.cosign_rows.specs.Verified.{part_of, verified}
 use Rattle.cosign_rows.specs.declared.refusal.PullRefusal.{PullRefusal}
 use Rattle.document_rows.specs.Blobs.{with_blobs, blobs_after}
 use Rattle.document_rows.specs.Rows.{documents_row}
-use Rattle.document_rows.specs.Same.{BeginsWithDocuments}
+use Rattle.document_rows.specs.Same.{BeginsWithDocuments, GoesOnAsPull, SameAsPull}
 use Rattle.document_rows.proofs.Blobs.{pull_is}
 
 -- the blobs change none of the documents
@@ -54,3 +55,21 @@ module _ {V : Type 0} {H : V → Type 0} (policy_context : PolicyContext V H) (s
   pub pull_begins : {old new : Link} {k l : Kept} (r : Result VerifiedImage PullRefusal) → Meets is_memory (verified policy_context s image a accepted) old new k l r → IfOk r (λ v. Told (λ c. BeginsWithDocuments policy_context s image a (snapshot k old.faults) c v) old new)
   pull_begins {old} {new} {k} {l} (Ok v) met = let run = met.outcome in record { conversation = run.conversation; told = run.told; holds = run_begins k l old.faults new.faults run.conversation v run.runs }
   pull_begins (Err e) met = tt
+
+-- a pull of documents, and the pull of the image from there
+module _ {V : Type 0} {H : V → Type 0} (policy_context : PolicyContext V H) (s : Context) (image : Reference) (a : RegistryAuth) where
+  goes_on : {old new : Link} {k l : Kept} (d : VerifiedDocuments) → Meets is_memory (documents_row policy_context s image a) old new k l (Ok d) → (accepted : List (List ℕ)) (end : Link) (e : Kept) (q : Result VerifiedImage PullRefusal)
+      → Meets is_memory (blobs_after s image accepted d) new end l e q → GoesOnAsPull policy_context s image a accepted old end k e d q
+  goes_on {old} {new} {k} {l} d met accepted end e q blobs = record {
+    pulled = subst (λ (p : Proto Kept (Result VerifiedImage PullRefusal)). Meets is_memory p old end k e q) (sym (pull_is policy_context s image a accepted)) (Meets-next (λ d. blobs_after s image accepted d) met blobs);
+    same = by_result q blobs;
+  } where
+    by_result : (q : Result VerifiedImage PullRefusal) → Meets is_memory (blobs_after s image accepted d) new end l e q → IfOk q (λ v. d ≡ documents_of v)
+    by_result (Ok v) blobs = let run = blobs.outcome in same_documents s image accepted d l e new.faults end.faults run.conversation v run.runs
+    by_result (Err x) blobs = tt
+
+  pub same_as_pull : {old new : Link} {k l : Kept} (r : Result VerifiedDocuments PullRefusal) → Meets is_memory (documents_row policy_context s image a) old new k l r → SameAsPull policy_context s image a old new k l r
+  same_as_pull {old} {new} {k} {l} r met = record { begins = λ accepted end e v pulled. pull_begins policy_context s image a accepted (Ok v) pulled; goes_on = by_result r met } where
+    by_result : (r : Result VerifiedDocuments PullRefusal) → Meets is_memory (documents_row policy_context s image a) old new k l r → IfOk r (λ d. (accepted : List (List ℕ)) (end : Link) (e : Kept) (q : Result VerifiedImage PullRefusal) → Meets is_memory (blobs_after s image accepted d) new end l e q → GoesOnAsPull policy_context s image a accepted old end k e d q)
+    by_result (Ok d) met = goes_on d met
+    by_result (Err x) met = tt

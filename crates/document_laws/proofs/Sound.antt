@@ -1,5 +1,5 @@
 -- Documents that are returned hold, and come from the responses.
-use Rattle.std.proofs.Common.{◌≡◌, ◌<◌, ◌⊎◌, inl, inr, ℕ, Bool, true, false, cond, List, [], ◌∷◌, ◌++◌, Option, Some, None, Result, Ok, Err, IfOk, length, refl, sym, ap, ◌∙◌, subst, arith, append-nil}
+use Rattle.std.proofs.Common.{◌≡◌, ◌<◌, ◌⊎◌, inl, inr, ℕ, Bool, true, false, cond, List, [], ◌∷◌, ◌++◌, Option, Some, None, Result, Ok, Err, IfOk, length, refl, sym, ap, subst, arith, append-nil}
 use Rattle.std.specs.Prelude.{if◌then◌else◌, find, unwrap_or}
 use Rattle.std.specs.FinMap as map_of
 use Rattle.oci_names.specs.declared.reference.Reference.{Reference}
@@ -27,7 +27,6 @@ use Rattle.registry_calls.specs.declared.error.SigstoreError.{SigstoreError}
 use Rattle.registry_calls.specs.Error.{is_memory}
 use Rattle.registry_calls.specs.Clients.{Kept, Row}
 use Rattle.registry_cache.specs.Keys.{manifest_key}
-use Rattle.registry_cache.specs.Caching.{known}
 use Rattle.registry_calls.specs.Calls.{digest_made, digest_call, manifest_call, image_call, referrers_call}
 use Rattle.registry_cache.specs.KeptCalls.{digests}
 use Rattle.cosign_layers.specs.Checks.{input, layer_read}
@@ -359,6 +358,11 @@ module _ {V : Type 0} {H : V → Type 0} (s : Context) (policy_context : PolicyC
         step_from kept Collected (readable image) _ (λ v back.
         let found : SeenFrom kept (Found kept policy_context.trust s image a) (part_of (searched policy_context.trust s image a)) = part_from kept (Found kept policy_context.trust s image a) (searched policy_context.trust s image a) (search_seen kept policy_context.trust s image a) in
         record { seen = λ l m n c r run. found_more (some_constraint policy_context.policy.constraints (constrained_some (is_unconstrained policy_context.policy) u is)) m n c r (found.seen l m n c r run) }))
+
+    -- the digest that was collected was returned, or was fresh in the cache
+    pub collected_answered : {old new : Link} {l : Kept} (r : Result TrustedLayers PullRefusal) → Meets of_refusal (collected policy_context s image a) old new kept l r → IfOk r (λ found. Told (λ c. AnsweredOrFresh kept s image a c found.digest) old new)
+    collected_answered (Ok found) met = let told = told_from Collected (Ok found) collected_seen met in record { conversation = told.conversation; told = told.told; holds = told.holds.found_is.answered }
+    collected_answered (Err e) met = tt
 
     sound_of : (c d : List Exchange) (found : TrustedLayers) (v : VerifiedDocuments) → Found kept policy_context.trust s image a c found → After d v → v.digest ≡ found.digest → IsSound (c ++ d) v
     sound_of c d found v h after same = record {

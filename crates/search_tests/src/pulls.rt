@@ -41,7 +41,7 @@ const NO_REFERRERS: &str =
 
 /// Each answer, after the one to the request for a token: those of the search, and those of the image. A token is
 /// requested once more before the referrers are.
-const ANSWERS: [(&str, &str); 19] = [
+pub(crate) const ANSWERS: [(&str, &str); 19] = [
     ("", ""),
     (MANIFEST_DIGEST, ""),
     ("", ""),
@@ -65,11 +65,11 @@ const ANSWERS: [(&str, &str); 19] = [
 
 // The arguments of a pull.
 #[derive(Drop)]
-struct Asked {
-    image: OciReference,
-    accepted: List<Text>,
-    policy: PullPolicy,
-    verifier: TableVerifier,
+pub(crate) struct Asked {
+    pub(crate) image: OciReference,
+    pub(crate) accepted: List<Text>,
+    pub(crate) policy: PullPolicy,
+    pub(crate) verifier: TableVerifier,
 }
 
 // One key, and one constraint that each layer satisfies.
@@ -102,7 +102,7 @@ fn accepted(alloc: Global) -> Result<List<Text>, AllocError> {
     Ok(accepted)
 }
 
-fn all_asked(alloc: Global) -> Option<Asked> {
+pub(crate) fn all_asked(alloc: Global) -> Option<Asked> {
     let image = OciReference::parse(alloc, IMAGE).ok()?;
     let accepted = accepted(alloc).ok()?;
     let verifier = verifier(alloc).ok()?;
@@ -116,7 +116,7 @@ fn all_asked(alloc: Global) -> Option<Asked> {
 }
 
 // Each function below holds one value of many parts, and the next one borrows it.
-fn client(alloc: Global) -> Option<Client> {
+pub(crate) fn client(alloc: Global) -> Option<Client> {
     ClientBuilder::new().build(alloc).ok()
 }
 
@@ -224,14 +224,19 @@ fn searched(
     counted
 }
 
+// The first answers.
+pub(crate) fn script_of(alloc: Global, count: usize) -> Option<Script> {
+    let given = ANSWERS.get(..count)?;
+    script(alloc, given).ok()
+}
+
 fn search_of(
     alloc: Global,
     client: &mut Client,
     asked: &Asked,
     count: usize,
 ) -> Option<(usize, usize)> {
-    let given = ANSWERS.get(..count)?;
-    let mut script = script(alloc, given).ok()?;
+    let mut script = script_of(alloc, count)?;
     searched(alloc, client, &mut script, asked)
 }
 
