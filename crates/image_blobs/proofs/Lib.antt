@@ -5,3 +5,4 @@ pub mod HashedBytes
 pub mod PullsOfRange
 pub mod SinkCalm
 pub mod SinksTaken
+pub mod TakenImages

@@ -5,9 +5,11 @@
 mod attempts;
 mod blobs;
 mod checked;
+mod laws;
 mod pulls;
 mod sinks;
 
 pub use checked::check_blob;
+pub use laws::documents_with_blobs_are_images;
 pub use pulls::{BlobRange, pull_blobs};
 pub use sinks::Sinks;
