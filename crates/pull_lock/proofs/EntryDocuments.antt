@@ -71,7 +71,7 @@ by_json bytes (Some d) document found is =
 is_document : (bytes : List ℕ) (document : OciManifest) → document_in bytes ≡ Some document → IsDocument bytes document
 is_document bytes document is = by_json bytes (json_of bytes) document refl is
 
-in_bytes : (bytes : List ℕ) (document : OciManifest) → IsDocument bytes document → document_in bytes ≡ Some document
+pub in_bytes : (bytes : List ℕ) (document : OciManifest) → IsDocument bytes document → document_in bytes ≡ Some document
 in_bytes bytes document is =
     ap (λ o. option_and_then (λ d. document_by (is_versioned d) (document_of d)) o) is.json
     ∙ ap (λ b. document_by b (document_of is.value)) is.versioned ∙ is.reads

@@ -2,9 +2,11 @@ pub mod Entries
 pub mod EntryDocuments
 pub mod FileLaws
 pub mod InOrder
+pub mod LockedDocuments
 pub mod Names
 pub mod Parts
 pub mod Signatures
 pub mod Unique
+pub mod Unlocks
 pub mod Values
 pub mod Verdicts

@@ -15,7 +15,7 @@ use Rattle.pull_lock.specs.declared.lock.LockEntry.{LockEntry}
 use Rattle.pull_lock.specs.declared.lock.LockedSignature.{LockedSignature}
 
 -- the written form of an input
-abbrev written : Input → LockedSignature
+abbrev pub written : Input → LockedSignature
 written i = record { kind = i.kind; oci_digest = i.oci_digest; content = i.content; annotations = i.annotations }
 
 -- a layer that stands for the digest is what the entry's bytes give

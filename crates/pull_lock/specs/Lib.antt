@@ -1,4 +1,6 @@
 pub mod Entries
 pub mod Files
 pub mod Locked
+pub mod LockedDocuments
 pub mod Tests
+pub mod Unlocked

@@ -64,9 +64,13 @@ Judges IsLocked entries (Fails image) =
     (before after : List LockEntry) × (e : LockEntry) × (entries ≡ before ++ e ∷ after)
     × All IsLocked before × ¬ IsLocked e × (image ≡ e.image)
 
+-- whether all three are UTF-8
+abbrev pub all_text : List ℕ → List ℕ → List ℕ → Bool
+all_text first manifest content = is_utf8 first && is_utf8 manifest && is_utf8 content
+
 -- whether the documents of an image and its signature layer are UTF-8
 abbrev pub is_text : VerifiedImage → Bool
-is_text found = is_utf8 found.first && is_utf8 found.manifest_bytes && is_utf8 found.signature.content
+is_text found = all_text found.first found.manifest_bytes found.signature.content
 
 -- `NotText` if and only if it is not, or out of memory
 abbrev pub NotTextOnly : Bool → Result LockEntry LockError → Type 0

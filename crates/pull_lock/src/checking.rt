@@ -23,8 +23,8 @@ pub enum LockVerdict {
     Fails { image: Text },
 }
 
-// Whether the entry is locked.
-fn is_locked<V: SignatureVerifier, O: Offline>(
+/// Returns whether the entry is locked.
+pub(crate) fn is_locked<V: SignatureVerifier, O: Offline>(
     alloc: Global,
     entry: &LockEntry,
     promise: Option<&ResolverPromise>,

@@ -12,8 +12,8 @@ use oci_digests::names_digest;
 use oci_manifests::{OciImageIndex, OciImageManifest, OciManifest};
 use std::alloc::{AllocError, Global};
 
-// The document that the text is.
-fn document_of(alloc: Global, text: &Text) -> Result<Option<OciManifest>, AllocError>
+/// Returns the document that the text is.
+pub(crate) fn document_of(alloc: Global, text: &Text) -> Result<Option<OciManifest>, AllocError>
     ensures { IfOk result (λ document. document ≡ document_in text.now) }
 {
     let bytes = Blob::new(alloc, text.as_str().as_bytes())?;

@@ -1,13 +1,16 @@
-// The entry of an image.
+// The entry of an image, and of its documents alone.
 ghost use Rattle.std.specs.Prelude.{◌≡◌, IfOk};
 ghost use Rattle.oci_names.specs.Reference.{whole_text};
-ghost use Rattle.pull_lock.specs.Entries.{GivesText, texts_of, GivesTexts};
+ghost use Rattle.pull_lock.specs.Entries.{GivesText, entry_by, GivesTexts};
 ghost use Rattle.pull_lock.specs.Locked.{ChainsAreLocked, entry_with, is_text, NotTextOnly};
+ghost use Rattle.pull_lock.specs.LockedDocuments.{are_text, documents_entry, DocumentsAreLocked};
 
 use crate::error::LockError;
 use crate::lock::{LockEntry, LockedSignature};
 use cosign_chain::VerifiedImage;
+use cosign_documents::VerifiedDocuments;
 use cosign_layers::PullPolicy;
+use cosign_parts::SignatureLayer;
 use json_values::{Blob, Copied, List, Text, copy_all, row};
 use oci_names::Reference;
 use std::alloc::{AllocError, Global};
@@ -30,12 +33,17 @@ struct Texts {
     content: Text,
 }
 
-fn texts_of(alloc: Global, found: &VerifiedImage) -> Result<Texts, LockError>
-    ensures { GivesTexts found.now result }
+fn texts_of(
+    alloc: Global,
+    first: &Blob,
+    manifest: &Blob,
+    content: &Blob,
+) -> Result<Texts, LockError>
+    ensures { GivesTexts first.now manifest.now content.now result }
 {
-    let first = text_in(alloc, &found.first)?;
-    let manifest = text_in(alloc, &found.manifest_bytes)?;
-    let content = text_in(alloc, &found.signature.content)?;
+    let first = text_in(alloc, first)?;
+    let manifest = text_in(alloc, manifest)?;
+    let content = text_in(alloc, content)?;
     Ok(Texts {
         first,
         manifest,
@@ -53,25 +61,26 @@ fn copied_list(alloc: Global, texts: &[Text]) -> Result<List<Text>, AllocError>
     Ok(copies)
 }
 
-// The entry with these texts.
+// The entry with these digests, this signature layer, and these texts.
 fn entry_by(
     alloc: Global,
     image: &Reference,
     accepted: &[Text],
-    found: &VerifiedImage,
+    digest: &Text,
+    manifest_digest: &Text,
+    layer: &SignatureLayer,
     texts: Texts,
 ) -> Result<LockEntry, AllocError>
-    ensures { texts ≡ texts_of found.now
-        → IfOk result (λ e. e ≡ entry_with (whole_text image.now) accepted.now found.now) }
+    ensures { IfOk result (λ e. e ≡ entry_by (whole_text image.now) accepted.now digest.now manifest_digest.now
+        layer.now texts) }
 {
     let image = image.whole(alloc)?;
     let accepted = copied_list(alloc, accepted)?;
-    let layer = &found.signature;
     let row![digest, manifest_digest, kind, oci_digest, annotations] = copy_all(
         alloc,
         row![
-            &found.digest,
-            &found.manifest_digest,
+            digest,
+            manifest_digest,
             &layer.kind,
             &layer.oci_digest,
             &layer.annotations
@@ -107,8 +116,37 @@ pub fn lock_entry(
     ensures entry { IfOk result (λ e. e ≡ entry_with (whole_text image.now) accepted.now found.now) }
     ensures not_text { NotTextOnly (is_text found.now) result }
 {
-    let texts = texts_of(alloc, found)?;
-    let entry = entry_by(alloc, image, accepted, found, texts)?;
+    let layer = &found.signature;
+    let texts = texts_of(alloc, &found.first, &found.manifest_bytes, &layer.content)?;
+    let (digest, manifest) = (&found.digest, &found.manifest_digest);
+    let entry = entry_by(alloc, image, accepted, digest, manifest, layer, texts)?;
+    Ok(entry)
+}
+
+/// Returns the entry of the documents of an image that were pulled by this reference, with these accepted media types of
+/// layers. If the documents hold, the reference reads back, and the manifest has layers, each of an accepted type, the
+/// entry is `Locked` (`documents_are_locked`). No blob of the image is needed.
+///
+/// Returns `NotText` if and only if a document, or the signature layer, is not UTF-8, and `WantOfMemory` if memory runs
+/// out.
+pub fn lock_documents(
+    alloc: Global,
+    image: &Reference,
+    accepted: &[Text],
+    documents: &VerifiedDocuments,
+) -> Result<LockEntry, LockError>
+    ensures entry { IfOk result (λ e. e ≡ documents_entry (whole_text image.now) accepted.now documents.now) }
+    ensures not_text { NotTextOnly (are_text documents.now) result }
+{
+    let layer = &documents.signature;
+    let texts = texts_of(
+        alloc,
+        &documents.first,
+        &documents.manifest_bytes,
+        &layer.content,
+    )?;
+    let (digest, manifest) = (&documents.digest, &documents.manifest_digest);
+    let entry = entry_by(alloc, image, accepted, digest, manifest, layer, texts)?;
     Ok(entry)
 }
 
@@ -116,4 +154,10 @@ pub fn lock_entry(
 /// reference that reads back, is locked, whatever is trusted and promised.
 pub fn chains_are_locked(policy: &PullPolicy)
     ensures { ChainsAreLocked policy.now }
+{}
+
+/// A law, as the contract of a function without effect: the entry of documents that hold under the policy, by a reference
+/// that reads back, is locked if the manifest has layers, each of an accepted type, whatever is trusted and promised.
+pub fn documents_are_locked(policy: &PullPolicy)
+    ensures { DocumentsAreLocked policy.now }
 {}

@@ -10,11 +10,13 @@ mod lock;
 mod named;
 mod reading;
 mod stands;
+mod unlocked;
 mod writing;
 
 pub use checking::{LockVerdict, check_lock};
-pub use entry::{chains_are_locked, lock_entry};
+pub use entry::{chains_are_locked, documents_are_locked, lock_documents, lock_entry};
 pub use error::LockError;
 pub use lock::{Lock, LockEntry, LockedSignature};
 pub use reading::read_lock;
+pub use unlocked::documents_of;
 pub use writing::write_lock;

@@ -13,14 +13,15 @@ use cosign_parts::{LayerKind, LogKeys, Offline, SignatureLayer, SignatureVerifie
 use json_values::Blob;
 use std::alloc::{AllocError, Global};
 
-fn content_of(alloc: Global, locked: &LockedSignature) -> Result<Blob, AllocError>
+/// Returns the bytes of a signature layer.
+pub(crate) fn content_of(alloc: Global, locked: &LockedSignature) -> Result<Blob, AllocError>
     ensures { IfOk result (λ content. content ≡ locked.now.content) }
 {
     Blob::new(alloc, locked.content.as_str().as_bytes())
 }
 
-// What these bytes and the annotations of the signature layer say about the entry's digest.
-fn read_locked<V: SignatureVerifier, O: Offline>(
+/// Returns what these bytes and the annotations of the signature layer say about the entry's digest.
+pub(crate) fn read_locked<V: SignatureVerifier, O: Offline>(
     alloc: Global,
     log_keys: &LogKeys,
     verifier: &V,
