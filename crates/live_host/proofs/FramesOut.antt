@@ -1,12 +1,21 @@
 -- Frames that are sent, one after another.
-use Rattle.std.proofs.Common.{◌≡◌, ℕ, Bool, List, [], ◌∷◌, ◌++◌, length, suc, ◌≤◌, append_assoc, refl, subst, sym, codes, arith}
+use Rattle.std.proofs.Common.{◌≡◌, ℕ, Bool, false, ◌||◌, List, [], ◌∷◌, ◌++◌, length, suc, ◌≤◌, append_assoc, Some, refl, subst, sym, ap, codes, arith}
+use Rattle.std.specs.FinMap.{FinMap}
+use Rattle.serde_json.specs.Data.{string}
+use Rattle.serde_json.specs.Written.{has_float}
+use Rattle.json_values.specs.Places.{by_bytes}
+use Rattle.json_values.specs.Writing.{map_written}
+use Rattle.json_tables.specs.Reading.{text_of}
+use Rattle.json_tables.proofs.Entries.{map_again}
+use Rattle.json_tables.proofs.Members.{fields_plain}
 use Rattle.byte_streams.specs.SinkState.{SinkState, Adds}
 use Rattle.byte_streams.proofs.Sinks.{adds_more}
 use Rattle.oci_manifests.specs.declared.blob.ImageLayer.{ImageLayer}
 use Rattle.oci_descriptors.specs.declared.descriptor.OciDescriptor.{OciDescriptor}
 use Rattle.cosign_chain.specs.declared.image.VerifiedImage.{VerifiedImage}
-use Rattle.live_host.specs.Heads.{item_head}
-use Rattle.live_host.specs.Items.{Sent, WereTold, blobs_sent, config_sent, image_sent, index_sent, layers_sent, manifest_sent, pulled_sent}
+use Rattle.cosign_documents.specs.declared.documents.VerifiedDocuments.{VerifiedDocuments}
+use Rattle.live_host.specs.Heads.{count_field, item_head, signature_head, text_field}
+use Rattle.live_host.specs.Items.{Sent, WereTold, blobs_sent, config_sent, documents_sent, image_sent, index_sent, layers_sent, list_sent, manifest_sent, own_manifest_sent, pulled_sent, signature_sent}
 use Rattle.live_host.specs.Wire.{Wire, SendsFrame}
 
 -- a line followed by its bytes
@@ -48,3 +57,14 @@ pub told_image : (blobs : Bool) (v : VerifiedImage) (a b c d e f : Wire) → Wer
 told_image blobs v a b c d e f index manifest config layers pulled =
     told_both (index_sent v v.list_digest) (manifest_sent v ∷ config_sent v ∷ (blobs_sent blobs v ++ pulled_sent v ∷ [])) a b f index
     (c, manifest, (d, config, told_both (blobs_sent blobs v) (pulled_sent v ∷ []) d e f layers (f, pulled, refl)))
+
+-- documents alone, and the signature layer
+pub told_documents : (v : VerifiedDocuments) (a b c d : Wire) → WereTold (list_sent v v.list_digest) a b → SendsFrame (own_manifest_sent v).0 (own_manifest_sent v).1 b c → SendsFrame (signature_sent v.signature).0 (signature_sent v.signature).1 c d → WereTold (documents_sent v) a d
+told_documents v a b c d list manifest signature =
+    told_both (list_sent v v.list_digest) (own_manifest_sent v ∷ signature_sent v.signature ∷ []) a b d list (c, manifest, (d, signature, refl))
+
+-- a signature layer's line has no float
+pub signature_plain : (kind digest : List ℕ) (annotations : FinMap by_bytes (List ℕ)) (count : ℕ) → has_float (signature_head kind digest annotations count) ≡ false
+signature_plain kind digest annotations count =
+    fields_plain (text_field (codes "frame") (codes "signature") ∷ text_field (codes "kind") kind ∷ text_field (codes "digest") digest ∷ (codes "annotations", Some (map_written string annotations)) ∷ count_field (codes "bytes") count ∷ [])
+    (ap (λ b. b || false) ((map_again text_of string (λ _. refl) (λ _. refl) annotations).plain refl))

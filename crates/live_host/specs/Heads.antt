@@ -1,10 +1,15 @@
 -- The heads of the frames that are sent.
 use Rattle.std.specs.Prelude.{ℕ, ℤ, List, [], ◌∷◌, Some, codes}
+use Rattle.std.specs.FinMap.{FinMap}
 use Rattle.base64.specs.Engines.{standard}
 use Rattle.base64.specs.GeneralPurpose.{encode_of}
 use Rattle.json_tables.specs.Fields.{Field, fields}
 use Rattle.serde_json.specs.Data.{Data, string, number, unsigned}
 use Rattle.serde_json.specs.Find.{of_integer}
+use Rattle.json_values.specs.Places.{by_bytes}
+use Rattle.json_values.specs.Writing.{map_written}
+use Rattle.cosign_parts.specs.declared.layer.LayerKind.{LayerKind}
+use Rattle.cosign_parts.specs.declared.layer.LayerKind.TheVariants.{Payload, Bundle}
 
 -- bytes in padded standard base64 (RFC 4648, 4)
 abbrev pub base64_text : List ℕ → List ℕ
@@ -43,6 +48,21 @@ item_head frame kind media_type digest count =
     ∷ text_field (codes "kind") kind
     ∷ text_field (codes "media_type") media_type
     ∷ text_field (codes "digest") digest
+    ∷ count_field (codes "bytes") count
+    ∷ [])
+
+-- the name of a signature layer's form
+abbrev pub kind_name : LayerKind → List ℕ
+kind_name Payload = codes "payload"
+kind_name Bundle = codes "bundle"
+
+-- a signature layer's content after the line: its form, its digest and its annotations
+abbrev pub signature_head : List ℕ → List ℕ → FinMap by_bytes (List ℕ) → ℕ → Data
+signature_head kind digest annotations count =
+    fields (text_field (codes "frame") (codes "signature")
+    ∷ text_field (codes "kind") kind
+    ∷ text_field (codes "digest") digest
+    ∷ (codes "annotations", Some (map_written string annotations))
     ∷ count_field (codes "bytes") count
     ∷ [])
 

@@ -1,4 +1,4 @@
--- The frames that an image is sent as.
+-- The frames that an image, and its documents alone, are sent as.
 use Rattle.std.specs.Prelude.{◌≡◌, ℕ, Bool, true, false, List, [], ◌∷◌, ◌++◌, length, Option, Some, None, codes}
 use Rattle.std.specs.Prelude.{unwrap_or}
 use Rattle.serde_json.specs.Data.{Data}
@@ -7,8 +7,10 @@ use Rattle.json_tables.specs.Reading.{◌>>=◌}
 use Rattle.json_tables.specs.Paths.{text_at}
 use Rattle.oci_manifests.specs.declared.blob.ImageLayer.{ImageLayer}
 use Rattle.oci_descriptors.specs.declared.descriptor.OciDescriptor.{OciDescriptor}
+use Rattle.cosign_parts.specs.declared.layer.SignatureLayer.{SignatureLayer}
 use Rattle.cosign_chain.specs.declared.image.VerifiedImage.{VerifiedImage}
-use Rattle.live_host.specs.Heads.{item_head, pulled_head}
+use Rattle.cosign_documents.specs.declared.documents.VerifiedDocuments.{VerifiedDocuments}
+use Rattle.live_host.specs.Heads.{item_head, kind_name, pulled_head, signature_head}
 use Rattle.live_host.specs.Wire.{Wire, SendsFrame}
 
 -- a frame: its line and the bytes after it
@@ -73,3 +75,26 @@ pulled_sent v = (pulled_head v.digest v.manifest_digest v.signature.oci_digest, 
 abbrev pub image_sent : Bool → VerifiedImage → List Sent
 image_sent blobs v =
     index_sent v v.list_digest ++ manifest_sent v ∷ config_sent v ∷ (blobs_sent blobs v ++ pulled_sent v ∷ [])
+
+-- ---- documents alone
+
+-- the index, if one led to the manifest
+abbrev pub list_sent : VerifiedDocuments → Option (List ℕ) → List Sent
+list_sent d None = []
+list_sent d (Some list) = document (codes "index") index_type list d.first ∷ []
+
+abbrev pub own_manifest_sent : VerifiedDocuments → Sent
+own_manifest_sent d = document (codes "manifest") manifest_type d.manifest_digest d.manifest_bytes
+
+-- the content of a signature layer, with its form, its digest and its annotations
+abbrev pub signature_sent : SignatureLayer → Sent
+signature_sent layer =
+    (signature_head (kind_name layer.kind) layer.oci_digest layer.annotations (length layer.content), layer.content)
+
+-- the index if one led to the manifest, the manifest, and the signature layer that stands for the digest
+abbrev pub documents_sent : VerifiedDocuments → List Sent
+documents_sent d = list_sent d d.list_digest ++ own_manifest_sent d ∷ signature_sent d.signature ∷ []
+
+-- the end of documents
+abbrev pub decided_sent : VerifiedDocuments → Sent
+decided_sent d = (pulled_head d.digest d.manifest_digest d.signature.oci_digest, [])

@@ -3,12 +3,12 @@ ghost use Rattle.std.specs.Prelude.{◌≡◌, IfOk, false, length};
 ghost use Rattle.serde_json.specs.Data.{number as of_number, unsigned};
 ghost use Rattle.serde_json.specs.Written.{has_float};
 ghost use Rattle.live_host.specs.Heads.{base64_text, begin_head, verify_head, judge_head};
-ghost use Rattle.live_host.specs.Heads.{item_head, pulled_head, refused_head};
+ghost use Rattle.live_host.specs.Heads.{item_head, pulled_head, refused_head, signature_head};
 
 use base64::engine::general_purpose::STANDARD;
 use cosign_parts::Evidence;
-use json_tables::object;
-use json_values::{Blob, Json, Text};
+use json_tables::{Required, object};
+use json_values::{Annotations, Blob, Json, Text};
 use serde_json::Value;
 use std::alloc::{AllocError, Global};
 
@@ -89,6 +89,29 @@ pub fn item_head(
         "media_type": media_type,
         "digest": digest,
         "bytes": &count(bytes.as_slice().len()),
+    })?;
+    Ok(Json::new(head))
+}
+
+/// Returns the line before the content of a signature layer: its form, its digest and its annotations.
+#[tactic(auto, using(crate::proofs::FramesOut::signature_plain))]
+pub fn signature_head(
+    alloc: Global,
+    kind: &str,
+    digest: &Text,
+    annotations: &Annotations,
+    content: &Blob,
+) -> Result<Json, AllocError>
+    ensures head { IfOk result (λ head.
+        head ≡ signature_head kind.now digest.now annotations.now (length content.now)) }
+    ensures plain { IfOk result (λ head. has_float head ≡ false) }
+{
+    let head = object!(alloc, {
+        "frame": &"signature",
+        "kind": &kind,
+        "digest": digest,
+        "annotations": &Required(annotations),
+        "bytes": &count(content.as_slice().len()),
     })?;
     Ok(Json::new(head))
 }

@@ -12,9 +12,9 @@ use byte_streams::{Sink, Source};
 use cosign_chain::VerifiedImage;
 use std::alloc::Global;
 
-const INDEX_TYPE: &str = "application/vnd.oci.image.index.v1+json";
+pub(crate) const INDEX_TYPE: &str = "application/vnd.oci.image.index.v1+json";
 
-const MANIFEST_TYPE: &str = "application/vnd.oci.image.manifest.v1+json";
+pub(crate) const MANIFEST_TYPE: &str = "application/vnd.oci.image.manifest.v1+json";
 
 // The index, if one led to the manifest.
 fn give_index<S: Source, K: Sink>(

@@ -67,7 +67,7 @@ found row first last breach old new k l r (Ok layers) told none met lets are who
 found row first last breach old new k l r (Err e) told none met lets are whole = tt
 
 -- a pull that did not run out of memory
-pub pulled : (row : Whole VerifiedImage) (first last : Link) (breach : Option Breach) (old new : Wire) (k l : Kept) (r : Result VerifiedImage PullRefusal)
+pub pulled : {A : Type 0} (row : Whole A) (first last : Link) (breach : Option Breach) (old new : Wire) (k l : Kept) (r : Result A PullRefusal)
     → first.told ≡ told_from old.sink.taken old.source.left [] → first.faults ≡ 0 → Meets is_memory row first last k l r → Lets last breach new.sink new.source → PulledBy row old new k l r
 pulled row first last breach old new k l (Ok v) told none met lets = transfer row first last breach old new k l (Ok v) told none met.outcome lets
 pulled row first last breach old new k l (Err e) told none met lets = λ whole. transfer row first last breach old new k l (Err e) told none (rw whole at met.outcome) lets

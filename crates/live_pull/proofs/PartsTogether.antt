@@ -41,7 +41,7 @@ use Rattle.live_pull.proofs.Meanings.{founded_as}
 use Rattle.live_pull.proofs.Policies.{policy_is, row_same}
 
 -- a consequence of each result is a consequence of the end
-pub ends_as : {P Q : Result VerifiedImage PullRefusal → Type 0} (s : Status) (new : Wire) → ((r : Result VerifiedImage PullRefusal) → P r → Q r) → Ends P s new → Ends Q s new
+pub ends_as : {A : Type 0} {P Q : Result A PullRefusal → Type 0} (s : Status) (new : Wire) → ((r : Result A PullRefusal) → P r → Q r) → Ends P s new → Ends Q s new
 ends_as status.Pulled new f h = (h.0, f (Ok h.0) h.1)
 ends_as status.Refused new f h = (h.0, h.1, f (Err h.0) h.2)
 ends_as status.UnreadableSettings new f h = absurd h

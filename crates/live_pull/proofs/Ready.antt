@@ -15,7 +15,7 @@ use Rattle.recorded_case.specs.Members.{unless_absent, number_of}
 use Rattle.recorded_case.specs.Platform.{platform_of}
 use Rattle.recorded_case.proofs.CaseParts.{reads_as_reference, through}
 use Rattle.live_host.specs.Names.{frame_named}
-use Rattle.live_pull.specs.Settings.{IsReady, keys_of, log_keys_of, members, settings_of, statements_of}
+use Rattle.live_pull.specs.Settings.{IsReady, document_members, documents_of, keys_of, log_keys_of, members, settings_of, statements_of}
 use Rattle.live_pull.specs.declared.settings.LiveSettings.{LiveSettings}
 
 abbrev HasRead : Data → LiveSettings → Type 0
@@ -48,3 +48,24 @@ ready_by d (Some found) settings is h = reads_as_reference (get (codes "referenc
 
 pub ready : (d : Data) (settings : LiveSettings) → settings_of d ≡ Some settings → IsReady settings
 ready d settings is = ready_by d (settings_of d) settings is (reference_is d)
+
+document_reference_is : (d : Data) → IfSome (documents_of d) (HasRead d)
+unfolding documents_of
+document_reference_is d =
+    through (HasRead d) (only document_members d) _ (λ known _.
+    through (HasRead d) (frame_named (codes "documents") d) _ (λ name _.
+    through (HasRead d) (required reference_text_of (codes "reference") d) _ (λ reference is_reference.
+    through (HasRead d) (at_name (unless_absent Https protocol_of) (codes "protocol") d) _ (λ protocol _.
+    through (HasRead d) (at_name (unless_absent Anonymous auth_of) (codes "auth") d) _ (λ auth _.
+    through (HasRead d) (required (list_of text_of) (codes "accepted") d) _ (λ accepted _.
+    through (HasRead d) (optional platform_of (codes "platform") d) _ (λ platform _.
+    through (HasRead d) (required u64_of (codes "moment") d) _ (λ moment _.
+    through (HasRead d) (at_name (unless_absent None number_of) (codes "limit") d) _ (λ limit _.
+    through (HasRead d) (required keys_of (codes "keys") d) _ (λ keys _.
+    through (HasRead d) (required (list_of constraint_of) (codes "constraints") d) _ (λ constraints _.
+    through (HasRead d) (at_name (unless_absent empty log_keys_of) (codes "log_keys") d) _ (λ log_keys _.
+    through (HasRead d) (at_name (unless_absent None statements_of) (codes "statements") d) _ (λ statements _.
+    is_reference)))))))))))))
+
+pub documents_ready : (d : Data) (settings : LiveSettings) → documents_of d ≡ Some settings → IsReady settings
+documents_ready d settings is = ready_by d (documents_of d) settings is (document_reference_is d)

@@ -1,5 +1,5 @@
 -- A live pull: the settings, the search, the host's answers, the pull, and what is sent.
-use Rattle.std.specs.Prelude.{◌≡◌, true, false, List, [], None, Result, Ok, Err}
+use Rattle.std.specs.Prelude.{◌≡◌, true, false, List, [], Option, None, Result, Ok, Err}
 use Rattle.serde_json.specs.Data.{Data}
 use Rattle.oci_names.specs.Reference.{reference_of}
 use Rattle.oci_names.specs.declared.reference.Reference.{Reference}
@@ -45,8 +45,8 @@ pub record Live (settings : LiveSettings) (r : Result VerifiedImage PullRefusal)
   pub given : OutcomeTold settings.blobs r pulled new
 
 -- by the status; out of memory guarantees nothing
-abbrev pub Ends : (Result VerifiedImage PullRefusal → Type 0) → Status → Wire → Type 0
-Ends P status.Pulled new = (v : VerifiedImage) × P (Ok v)
+abbrev pub Ends : {A : Type 0} → (Result A PullRefusal → Type 0) → Status → Wire → Type 0
+Ends {A} P status.Pulled new = (v : A) × P (Ok v)
 Ends P status.Refused new = (e : PullRefusal) × (is_memory e ≡ false) × P (Err e)
 Ends P status.UnreadableSettings new = ⊥
 Ends P status.HostBroken new = IsBroken new
@@ -57,13 +57,17 @@ Ends P status.WantOfMemory new = Unit {0}
 abbrev pub Begins : LiveSettings → Wire → Wire → Type 0
 Begins settings old new = SendsAndReceives begin_head [] settings_of settings old new
 
--- a frame was received that is not settings
-pub record NoSettings (old new : Wire) : Type 0 where
+-- a frame was received that does not parse
+pub record NoFirst {X : Type 0} (reads : Data → Option X) (old new : Wire) : Type 0 where
   pub between : Wire
   pub told : SendsFrame begin_head [] old between
   pub frame : Data
   pub heard : ReceivesFrame frame between new
-  pub unread : settings_of frame ≡ None
+  pub unread : reads frame ≡ None
+
+-- a frame was received that is not settings
+abbrev pub NoSettings : Wire → Wire → Type 0
+NoSettings = NoFirst settings_of
 
 -- what was done with a host
 abbrev pub Lives : Result VerifiedImage PullRefusal → Wire → Wire → Type 0

@@ -1,5 +1,5 @@
 -- The parts of a live pull.
-use Rattle.std.specs.Prelude.{◌≡◌, ℕ, Bool, true, false, List, Some, None, Result, Ok, Err}
+use Rattle.std.specs.Prelude.{◌≡◌, ℕ, Bool, true, false, List, Option, Some, None, Result, Ok, Err}
 use Rattle.std.specs.FinMap.{FinMap}
 use Rattle.serde_json.specs.Data.{Data}
 use Rattle.json_values.specs.Places.{by_bytes}
@@ -23,7 +23,7 @@ use Rattle.live_host.specs.Questions.{WereAsked}
 use Rattle.live_host.specs.Wire.{Wire}
 use Rattle.live_host.specs.declared.answers.Answers.{Answers}
 use Rattle.recorded_case.specs.Policy.{constraints_by}
-use Rattle.live_pull.specs.Live.{NoSettings}
+use Rattle.live_pull.specs.Live.{NoFirst}
 use Rattle.cosign_client.specs.Clients.{fresh}
 use Rattle.live_pull.specs.Pulls.{Collects, Transfer, client_settings}
 use Rattle.live_pull.specs.Refusals.{OutcomeTold}
@@ -47,31 +47,44 @@ Prepares settings p =
     × (p.client.rekor_pub_keys ≡ settings.log_keys)
 
 -- what a frame parses as
+abbrev pub ReadsFirst : {X : Type 0} → (Data → Option X) → Result X Status → Data → Type 0
+ReadsFirst reads (Ok x) d = reads d ≡ Some x
+ReadsFirst reads (Err status.UnreadableSettings) d = reads d ≡ None
+ReadsFirst reads (Err status.WantOfMemory) d = Unit {0}
+ReadsFirst reads (Err other) d = ⊥
+
+-- the same of settings
 abbrev pub ReadsSettings : Result LiveSettings Status → Data → Type 0
-ReadsSettings (Ok settings) d = settings_of d ≡ Some settings
-ReadsSettings (Err status.UnreadableSettings) d = settings_of d ≡ None
-ReadsSettings (Err status.WantOfMemory) d = Unit {0}
-ReadsSettings (Err other) d = ⊥
+ReadsSettings = ReadsFirst settings_of
+
+-- why no first frame was read
+abbrev pub FirstCause : {X : Type 0} → (Data → Option X) → Status → Wire → Wire → Type 0
+FirstCause reads status.Pulled old new = ⊥
+FirstCause reads status.Refused old new = ⊥
+FirstCause reads status.UnreadableSettings old new = NoFirst reads old new
+FirstCause reads status.HostBroken old new = IsBroken new
+FirstCause reads status.SinkFault old new = IsUnwritten new
+FirstCause reads status.WantOfMemory old new = Unit {0}
 
 -- why no settings were read
 abbrev pub BeginCause : Status → Wire → Wire → Type 0
-BeginCause status.Pulled old new = ⊥
-BeginCause status.Refused old new = ⊥
-BeginCause status.UnreadableSettings old new = NoSettings old new
-BeginCause status.HostBroken old new = IsBroken new
-BeginCause status.SinkFault old new = IsUnwritten new
-BeginCause status.WantOfMemory old new = Unit {0}
+BeginCause = FirstCause settings_of
 
--- how the result of a pull was sent
+-- how the result of a pull was sent, in frames for which `Gives` holds
+abbrev pub DeliversBy : {A : Type 0} → (Result A PullRefusal → Wire → Wire → Type 0) → Result A PullRefusal → Status
+    → Wire → Wire → Type 0
+DeliversBy Gives (Ok v) status.Pulled old new = Gives (Ok v) old new
+DeliversBy Gives (Err e) status.Pulled old new = ⊥
+DeliversBy Gives (Ok v) status.Refused old new = ⊥
+DeliversBy Gives (Err e) status.Refused old new = (is_memory e ≡ false) × Gives (Err e) old new
+DeliversBy Gives r status.UnreadableSettings old new = ⊥
+DeliversBy Gives r status.HostBroken old new = IsBroken new
+DeliversBy Gives r status.SinkFault old new = IsUnwritten new
+DeliversBy Gives r status.WantOfMemory old new = Unit {0}
+
+-- the same of an image
 abbrev pub Delivers : Bool → Result VerifiedImage PullRefusal → Status → Wire → Wire → Type 0
-Delivers blobs (Ok v) status.Pulled old new = OutcomeTold blobs (Ok v) old new
-Delivers blobs (Err e) status.Pulled old new = ⊥
-Delivers blobs (Ok v) status.Refused old new = ⊥
-Delivers blobs (Err e) status.Refused old new = (is_memory e ≡ false) × OutcomeTold blobs (Err e) old new
-Delivers blobs r status.UnreadableSettings old new = ⊥
-Delivers blobs r status.HostBroken old new = IsBroken new
-Delivers blobs r status.SinkFault old new = IsUnwritten new
-Delivers blobs r status.WantOfMemory old new = Unit {0}
+Delivers blobs = DeliversBy (OutcomeTold blobs)
 
 -- a property of a pull: of the client state before and after, its result, and the streams before and after
 abbrev pub Showing : Type 1

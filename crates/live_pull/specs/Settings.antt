@@ -1,5 +1,5 @@
 -- The settings of a live pull.
-use Rattle.std.specs.Prelude.{ℕ, List, [], ◌∷◌, ◌++◌, Option, Some, None, option_map, IsOk, codes}
+use Rattle.std.specs.Prelude.{ℕ, false, List, [], ◌∷◌, ◌++◌, Option, Some, None, option_map, IsOk, codes}
 use Rattle.std.specs.FinMap.{FinMap, empty}
 use Rattle.serde_json.specs.Data.{Data}
 use Rattle.json_values.specs.Places.{by_bytes}
@@ -88,6 +88,52 @@ settings_of d = do
     constraints = with_statements constraints statements;
     log_keys = log_keys;
     blobs = blobs;
+  })
+
+-- The frame `documents`, with no other members: those of the settings but `blobs`. No blob is sent.
+abbrev pub document_members : List (List ℕ)
+document_members =
+    codes "reference"
+    ∷ codes "protocol"
+    ∷ codes "auth"
+    ∷ codes "accepted"
+    ∷ codes "platform"
+    ∷ codes "moment"
+    ∷ codes "limit"
+    ∷ codes "keys"
+    ∷ codes "constraints"
+    ∷ codes "log_keys"
+    ∷ codes "statements"
+    ∷ codes "frame"
+    ∷ []
+
+unfoldable pub documents_of : Data → Option LiveSettings
+documents_of d = do
+  known ← only document_members d
+  name ← frame_named (codes "documents") d
+  reference ← required reference_text_of (codes "reference") d
+  protocol ← at_name (unless_absent Https protocol_of) (codes "protocol") d
+  auth ← at_name (unless_absent Anonymous auth_of) (codes "auth") d
+  accepted ← required (list_of text_of) (codes "accepted") d
+  platform ← optional platform_of (codes "platform") d
+  moment ← required u64_of (codes "moment") d
+  limit ← at_name (unless_absent None number_of) (codes "limit") d
+  keys ← required keys_of (codes "keys") d
+  constraints ← required (list_of constraint_of) (codes "constraints") d
+  log_keys ← at_name (unless_absent empty log_keys_of) (codes "log_keys") d
+  statements ← at_name (unless_absent None statements_of) (codes "statements") d
+  Some (record {
+    reference = reference;
+    protocol = protocol;
+    auth = auth;
+    accepted = accepted;
+    platform = platform;
+    moment = moment;
+    limit = limit;
+    keys = keys;
+    constraints = with_statements constraints statements;
+    log_keys = log_keys;
+    blobs = false;
   })
 
 -- its reference parses

@@ -36,7 +36,7 @@ IsWhole (Ok found) = Unit {0}
 IsWhole (Err e) = of_memory e ≡ false
 
 -- a complete run of the pull, unless memory ran out
-abbrev pub PulledBy : Whole VerifiedImage → Wire → Wire → Kept → Kept → Result VerifiedImage PullRefusal → Type 0
+abbrev pub PulledBy : {A : Type 0} → Whole A → Wire → Wire → Kept → Kept → Result A PullRefusal → Type 0
 PulledBy row old new k l (Ok v) = Transfer row old new k l (Ok v)
 PulledBy row old new k l (Err e) = is_memory e ≡ false → Transfer row old new k l (Err e)
 

@@ -10,6 +10,8 @@ mod settings;
 mod statements;
 mod status;
 
-pub use live::{Ended, run, serve};
-pub use settings::LiveSettings;
+pub use live::{Ended, Prepared, deliver_refusal, run, serve};
+pub use opening::{Opened, open_settings};
+pub use pulls::Terms;
+pub use settings::{LiveSettings, read_document_settings, read_settings};
 pub use status::Status;

@@ -29,11 +29,11 @@ pub struct Ended<S, K> {
     pub streams: Streams<S, K>,
 }
 
-// The client of a pull, and its arguments.
+/// The client of a pull, and its arguments.
 #[derive(Drop)]
-struct Prepared {
-    client: Client,
-    terms: Terms,
+pub struct Prepared {
+    pub client: Client,
+    pub terms: Terms,
 }
 
 // The settings in a frame.
@@ -99,7 +99,8 @@ fn deliver_image<S: Source, K: Sink>(
     }
 }
 
-fn deliver_refusal<S: Source, K: Sink>(
+/// Sends why an image was not pulled, unless memory ran out. Returns the exit status.
+pub fn deliver_refusal<S: Source, K: Sink>(
     alloc: Global,
     streams: &mut Streams<S, K>,
     refusal: &PullRefusal,

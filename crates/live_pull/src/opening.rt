@@ -9,7 +9,7 @@ use std::alloc::Global;
 
 /// A client, and its arguments. It caches responses, so that the search's requests are not sent twice.
 #[derive(Drop)]
-pub(crate) struct Opened {
+pub struct Opened {
     pub client: Client,
     pub moment: u64,
     pub image: OciReference,
@@ -19,7 +19,8 @@ pub(crate) struct Opened {
     pub blobs: bool,
 }
 
-pub(crate) fn open_settings(alloc: Global, asked: Asked, settings: LiveSettings) -> Opened
+/// Returns the client that was built for settings, and its arguments.
+pub fn open_settings(alloc: Global, asked: Asked, settings: LiveSettings) -> Opened
     ensures { Opens asked settings result }
 {
     let Asked { image, auth, usual } = asked;

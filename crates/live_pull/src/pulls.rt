@@ -23,7 +23,7 @@ use std::alloc::{AllocError, Global};
 
 /// The arguments of a pull, its moment (in seconds since 1970), and its terms.
 #[derive(Drop)]
-pub(crate) struct Terms {
+pub struct Terms {
     pub moment: u64,
     pub image: OciReference,
     pub auth: Auth,

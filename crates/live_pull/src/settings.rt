@@ -2,7 +2,7 @@
 ghost use Rattle.std.specs.Prelude.{IfOk};
 ghost use Rattle.serde_json.specs.View.{view};
 ghost use Rattle.json_tables.specs.Outcomes.{ReadsTo};
-ghost use Rattle.live_pull.specs.Settings.{settings_of, IsReady};
+ghost use Rattle.live_pull.specs.Settings.{settings_of, documents_of, IsReady};
 
 use crate::keys::{KeyList, KeyMap};
 use crate::statements::{StatementTypes, with_statements};
@@ -62,30 +62,45 @@ const NAMES: &[&str] = &[
     "frame",
 ];
 
+const DOCUMENT_NAMES: &[&str] = &[
+    "reference",
+    "protocol",
+    "auth",
+    "accepted",
+    "platform",
+    "moment",
+    "limit",
+    "keys",
+    "constraints",
+    "log_keys",
+    "statements",
+    "frame",
+];
+
 // The members from each one on, in the order of `NAMES`; the frame's name is read by itself.
 type Blobs = (bool, ());
 
-type Statements = (StatementTypes, Blobs);
+type Statements<R> = (StatementTypes, R);
 
-type Logs = (KeyMap, Statements);
+type Logs<R> = (KeyMap, Statements<R>);
 
-type Constraints = (Entries<WrittenConstraint>, Logs);
+type Constraints<R> = (Entries<WrittenConstraint>, Logs<R>);
 
-type Keys = (KeyList, Constraints);
+type Keys<R> = (KeyList, Constraints<R>);
 
-type Limit = (OrUsual<Option<u64>>, Keys);
+type Limit<R> = (OrUsual<Option<u64>>, Keys<R>);
 
-type Moment = (u64, Limit);
+type Moment<R> = (u64, Limit<R>);
 
-type Platforms = (Platform, Moment);
+type Platforms<R> = (Platform, Moment<R>);
 
-type Accepted = (List<Text>, Platforms);
+type Accepted<R> = (List<Text>, Platforms<R>);
 
-type Auth = (OrUsual<RegistryAuth>, Accepted);
+type Auth<R> = (OrUsual<RegistryAuth>, Accepted<R>);
 
-type Protocol = (OrUsual<ClientProtocol>, Auth);
+type Protocol<R> = (OrUsual<ClientProtocol>, Auth<R>);
 
-type Members = (ReferenceText, Protocol);
+type Members<R> = (ReferenceText, Protocol<R>);
 
 impl Reads for LiveSettings {
     ghost use Rattle.live_pull.specs.Settings.{settings_of};
@@ -111,7 +126,7 @@ impl Reads for LiveSettings {
             log_keys,
             statements,
             blobs
-        ]: Members = read_row::<LiveSettings, _>(alloc, value, NAMES)?;
+        ]: Members<Blobs> = read_row::<LiveSettings, _>(alloc, value, NAMES)?;
         let constraints = with_statements(alloc, constraints.list, statements.types)?;
         Ok(LiveSettings {
             reference: reference.text,
@@ -130,10 +145,58 @@ impl Reads for LiveSettings {
 }
 
 /// Reads settings. Returns `Shape` if and only if the value is not a frame with the members of `LiveSettings`.
-pub(crate) fn read_settings(alloc: Global, value: &Value) -> Result<LiveSettings, ReadError>
+pub fn read_settings(alloc: Global, value: &Value) -> Result<LiveSettings, ReadError>
     ensures exact { ReadsTo result (settings_of (view value.now)) }
     ensures ready { IfOk result IsReady }
 {
     let settings = LiveSettings::read_value(alloc, value)?;
+    Ok(settings)
+}
+
+// The settings in the frame `documents`.
+#[tactic(auto, unfolding(crate::specs::Settings::documents_of))]
+fn document_settings(alloc: Global, value: &Value) -> Result<LiveSettings, ReadError>
+    ensures { ReadsTo result (documents_of (view value.now)) }
+{
+    only(value, DOCUMENT_NAMES)?;
+    if !is_frame(value, "documents") {
+        return Err(ReadError::Shape);
+    }
+    let row![
+        reference,
+        protocol,
+        auth,
+        accepted,
+        platform,
+        moment,
+        limit,
+        keys,
+        constraints,
+        log_keys,
+        statements
+    ]: Members<()> = read_row::<LiveSettings, _>(alloc, value, DOCUMENT_NAMES)?;
+    let constraints = with_statements(alloc, constraints.list, statements.types)?;
+    Ok(LiveSettings {
+        reference: reference.text,
+        protocol: protocol.value,
+        auth: auth.value,
+        accepted,
+        platform: platform.resolver,
+        moment,
+        limit: limit.value,
+        keys: keys.list,
+        constraints,
+        log_keys: log_keys.map,
+        blobs: false,
+    })
+}
+
+/// Reads the settings of a pull of documents, of which no blob is sent: the frame `documents`, with the members of
+/// `settings` but `blobs`. Returns `Shape` if and only if the value is not such a frame.
+pub fn read_document_settings(alloc: Global, value: &Value) -> Result<LiveSettings, ReadError>
+    ensures exact { ReadsTo result (documents_of (view value.now)) }
+    ensures ready { IfOk result IsReady }
+{
+    let settings = document_settings(alloc, value)?;
     Ok(settings)
 }

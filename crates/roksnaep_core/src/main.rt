@@ -1,9 +1,10 @@
-//! The program: `run` of `live_pull` over standard input and output.
+//! The program: `run` of `live_documents` over standard input and output.
 #![tactic(auto)]
 
 pub use byte_streams::{StdSink, StdSource};
+pub use live_documents::run;
 pub use live_host::Streams;
-pub use live_pull::{Ended, Status, run};
+pub use live_pull::{Ended, Status};
 use std::process::ExitCode;
 
 // What an exit status other than 0 and 1 means, and what to do.

@@ -1,0 +1,178 @@
+-- A course by given terms is a live pull by the settings, and is justified.
+use Rattle.std.proofs.Common.{◌≡◌, ℕ, true, false, List, [], Option, Some, None, Result, Ok, Err, refl, sym, ap, ◌∙◌, subst}
+use Rattle.std.specs.FinMap.{FinMap}
+use Rattle.json_values.specs.Places.{by_bytes}
+use Rattle.oci_names.specs.declared.reference.Reference.{Reference}
+use Rattle.oci_names.specs.Reference.{mirror_of}
+use Rattle.oci_transport.specs.declared.message.Exchange.{Exchange}
+use Rattle.engine_rows.specs.Confined.{Within}
+use Rattle.engine_rows.specs.Held.{pulling}
+use Rattle.engine_terms.specs.Contexts.{within}
+use Rattle.engine_terms.specs.declared.settings.Settings.{Settings}
+use Rattle.registry_cache.specs.Auths.{registry_auth}
+use Rattle.registry_calls.specs.Clients.{Client as State, Kept}
+use Rattle.registry_calls.specs.Direct.{reference_in}
+use Rattle.cosign_client.specs.Clients.{fresh}
+use Rattle.cosign_client.specs.State.{client_state}
+use Rattle.cosign_layers.specs.Satisfying.{CustomVerdict, policy_context}
+use Rattle.cosign_layers.specs.declared.policy.PullPolicy.{PullPolicy}
+use Rattle.cosign_parts.specs.Trust.{Trust}
+use Rattle.cosign_documents.specs.declared.documents.VerifiedDocuments.{VerifiedDocuments}
+use Rattle.cosign_rows.specs.Refusal.{is_memory}
+use Rattle.cosign_rows.specs.Snapshots.{snapshot}
+use Rattle.cosign_rows.specs.Sound.{AnsweredOrFresh}
+use Rattle.cosign_rows.specs.Verified.{Whole}
+use Rattle.cosign_rows.specs.declared.found.TrustedLayers.{TrustedLayers}
+use Rattle.cosign_rows.specs.declared.refusal.PullRefusal.{PullRefusal}
+use Rattle.document_laws.proofs.Collected.{collected_cause, collected_confined}
+use Rattle.document_laws.proofs.Decided.{decided_cause, decided_confined, decided_hold, decided_over}
+use Rattle.document_laws.proofs.Sound.{collected_answered}
+use Rattle.document_rows.specs.Causes.{DecidedCause, DocumentsCause}
+use Rattle.document_rows.specs.Rows.{collected, decided}
+use Rattle.document_rows.specs.Sound.{DecidedOver}
+use Rattle.live_host.specs.Everyone.{everyone}
+use Rattle.live_host.specs.Wire.{Wire}
+use Rattle.live_host.specs.declared.answers.Answers.{Answers}
+use Rattle.live_pull.specs.Justified.{Confined}
+use Rattle.live_pull.specs.Live.{Ends}
+use Rattle.live_pull.specs.Parts.{Prepares}
+use Rattle.live_pull.specs.Pulls.{Transfer, context_of, meaning_of, trust_of}
+use Rattle.live_pull.specs.declared.live.Prepared.{Prepared}
+use Rattle.live_pull.specs.declared.settings.LiveSettings.{LiveSettings}
+use Rattle.live_pull.specs.declared.status.Status.{Status}
+use Rattle.live_pull.specs.declared.status.Status.TheVariants as status
+use Rattle.live_pull.proofs.Policies.{policy_is}
+use Rattle.live_documents.specs.Course.{AfterSearch, Course}
+use Rattle.live_documents.specs.Justified.{AfterJustified, DecisionJustified, FoundJustified, Justified}
+use Rattle.live_documents.specs.LiveDocuments.{LiveDocuments}
+use Rattle.live_documents.specs.Rows.{collect_for, collect_row, decide_for, decide_row, everyone_of}
+use Rattle.live_documents.proofs.RowsSame.{collected_same, decided_same}
+use Rattle.live_documents.proofs.Transfers.{IsKept, link_with, meets, shown_by}
+
+-- ---- the rows by these terms are those of the settings
+
+collect_is : {V : Type 0} {H : V → Type 0} (own : CustomVerdict V H) (settings : LiveSettings) (p : Prepared V H) → Prepares settings p
+    → collect_for own p.terms p.client.rekor_pub_keys (client_state p.client).settings ≡ collect_row settings (reference_in p.terms.image)
+collect_is {V} {H} own settings p (reads, auth, accepted, moment, keys, constraints, client, logs) =
+    rw (client, logs, moment, auth)
+    (ap (λ (policy : PullPolicy V H). collected (policy_context policy own (everyone settings.log_keys)) (context_of settings) (reference_in p.terms.image) settings.auth) (policy_is p.terms.policy settings keys constraints)
+    ∙ collected_same own settings.keys settings.constraints (everyone settings.log_keys) (context_of settings) (reference_in p.terms.image) settings.auth)
+
+decide_is : {V : Type 0} {H : V → Type 0} (own : CustomVerdict V H) (settings : LiveSettings) (p : Prepared V H) (answers : Answers) (found : TrustedLayers) → Prepares settings p
+    → decide_for own p.terms p.client.rekor_pub_keys (client_state p.client).settings answers found ≡ decide_row settings (reference_in p.terms.image) answers found
+decide_is {V} {H} own settings p answers found (reads, auth, accepted, moment, keys, constraints, client, logs) =
+    rw (client, logs, moment, auth)
+    (ap (λ (policy : PullPolicy V H). decided (policy_context policy own (trust_of settings answers)) (context_of settings) (reference_in p.terms.image) settings.auth found) (policy_is p.terms.policy settings keys constraints)
+    ∙ decided_same own settings.keys settings.constraints (trust_of settings answers) (context_of settings) (reference_in p.terms.image) settings.auth found)
+
+-- ---- justified
+
+module _ (settings : LiveSettings) (image : Reference) (direct : mirror_of image ≡ None) where
+  search_justified : (k l : Kept) (old new : Wire) (r : Result TrustedLayers PullRefusal) → IsKept r → Transfer (collect_row settings image) old new k l r → FoundJustified (everyone_of settings) (context_of settings) image settings.auth k l r old new
+  search_justified k l old new (Ok found) kept t =
+      shown_by (collect_row settings image) (λ c. AnsweredOrFresh k (context_of settings) image settings.auth c found.digest) old new k l (Ok found) t
+      (collected_answered (context_of settings) (everyone_of settings) image settings.auth k (Ok found) (meets (collect_row settings image) old new k l (Ok found) kept t))
+  search_justified k l old new (Err e) kept t = (
+    t.faults,
+    shown_by (collect_row settings image) (λ c. DocumentsCause (everyone_of settings) (context_of settings) image settings.auth (snapshot k 0) c (snapshot l t.faults) e) old new k l (Err e) t
+        (collected_cause (everyone_of settings) (context_of settings) image settings.auth (Err e) (meets (collect_row settings image) old new k l (Err e) kept t)),
+  )
+
+  search_confined : (k l : Kept) (old new : Wire) (r : Result TrustedLayers PullRefusal) → IsKept r → Transfer (collect_row settings image) old new k l r → Confined (context_of settings) image settings.auth k l old new
+  search_confined k l old new r kept t =
+      shown_by (collect_row settings image) (λ c. Within (pulling k.0 (context_of settings) image (Some settings.auth)) (context_of settings).settings l.0 c) old new k l r t
+      (collected_confined (everyone_of settings) (context_of settings) image settings.auth r direct (meets (collect_row settings image) old new k l r kept t))
+
+  decision_justified : (answers : Answers) (found : TrustedLayers) (k l : Kept) (old new : Wire) (r : Result VerifiedDocuments PullRefusal) → IsKept r → Transfer (decide_row settings image answers found) old new k l r → DecisionJustified (meaning_of settings answers) (context_of settings) image settings.auth found k l r old new
+  decision_justified answers found k l old new (Ok d) kept t =
+      let met = meets (decide_row settings image answers found) old new k l (Ok d) kept t in (
+        decided_hold (meaning_of settings answers) (context_of settings) image settings.auth found (Ok d) met,
+        shown_by (decide_row settings image answers found) (λ c. DecidedOver found c d) old new k l (Ok d) t (decided_over (meaning_of settings answers) (context_of settings) image settings.auth found (Ok d) met),
+      )
+  decision_justified answers found k l old new (Err e) kept t = (
+    t.faults,
+    shown_by (decide_row settings image answers found) (λ c. DecidedCause (meaning_of settings answers) (context_of settings) image settings.auth found (snapshot k 0) c (snapshot l t.faults) e) old new k l (Err e) t
+        (decided_cause (meaning_of settings answers) (context_of settings) image settings.auth found (Err e) (meets (decide_row settings image answers found) old new k l (Err e) kept t)),
+  )
+
+  decision_confined : (answers : Answers) (found : TrustedLayers) (k l : Kept) (old new : Wire) (r : Result VerifiedDocuments PullRefusal) → IsKept r → Transfer (decide_row settings image answers found) old new k l r → Confined (context_of settings) image settings.auth k l old new
+  decision_confined answers found k l old new r kept t =
+      shown_by (decide_row settings image answers found) (λ c. Within (pulling k.0 (context_of settings) image (Some settings.auth)) (context_of settings).settings l.0 c) old new k l r t
+      (decided_confined (meaning_of settings answers) (context_of settings) image settings.auth found r direct (meets (decide_row settings image answers found) old new k l r kept t))
+
+  after_justified : (k : Kept) (found : Result TrustedLayers PullRefusal) (old new : Wire) (r : Result VerifiedDocuments PullRefusal) → IsKept r → (after : AfterSearch (decide_row settings image) k found old new r) → AfterJustified settings image k found old new r after
+  after_justified k (Ok found) old new r kept after = (
+    decision_justified after.answers found k after.finished.left after.asked_at after.finished.decided_at r kept after.finished.decision,
+    decision_confined after.answers found k after.finished.left after.asked_at after.finished.decided_at r kept after.finished.decision,
+  )
+  after_justified k (Err e) old new r kept after = tt
+
+  -- the search did not run out of memory, since its error is the result
+  found_kept : (k : Kept) (found : Result TrustedLayers PullRefusal) (old new : Wire) (r : Result VerifiedDocuments PullRefusal) → IsKept r → AfterSearch (decide_row settings image) k found old new r → IsKept found
+  found_kept k (Ok found) old new r kept after = tt
+  found_kept k (Err e) old new r kept after = rw after.0 at kept
+
+  pub justified : (k : Kept) (old new : Wire) (r : Result VerifiedDocuments PullRefusal) → IsKept r → (course : Course (collect_row settings image) (decide_row settings image) k old new r) → Justified settings image k old new r course
+  justified k old new r kept course =
+      let searched = found_kept course.kept course.found course.searched_at new r kept course.after in
+      record {
+        search = search_justified k course.kept old course.searched_at course.found searched course.search;
+        confined = search_confined k course.kept old course.searched_at course.found searched course.search;
+        after = after_justified course.kept course.found course.searched_at new r kept course.after;
+      }
+
+-- ---- by the settings
+
+after_as : (decide same : Answers → TrustedLayers → Whole VerifiedDocuments) (k : Kept) (found : Result TrustedLayers PullRefusal) (old new : Wire) (r : Result VerifiedDocuments PullRefusal) → ((answers : Answers) (layers : TrustedLayers) → decide answers layers ≡ same answers layers)
+    → AfterSearch decide k found old new r → AfterSearch same k found old new r
+after_as decide same k (Ok found) old new r is after = record {
+  asked_at = after.asked_at;
+  answers = after.answers;
+  questions = after.questions;
+  finished = record {
+    decided_at = after.finished.decided_at;
+    left = after.finished.left;
+    decision = subst (λ (row : Whole VerifiedDocuments). Transfer row after.asked_at after.finished.decided_at k after.finished.left r) (is after.answers found) after.finished.decision;
+    given = after.finished.given;
+  };
+}
+after_as decide same k (Err e) old new r is after = after
+
+course_as : (collect other : Whole TrustedLayers) (decide same : Answers → TrustedLayers → Whole VerifiedDocuments) (k : Kept) (old new : Wire) (r : Result VerifiedDocuments PullRefusal) → collect ≡ other → ((answers : Answers) (layers : TrustedLayers) → decide answers layers ≡ same answers layers)
+    → Course collect decide k old new r → Course other same k old new r
+course_as collect other decide same k old new r searches decides course = record {
+  searched_at = course.searched_at;
+  kept = course.kept;
+  found = course.found;
+  search = subst (λ (row : Whole TrustedLayers). Transfer row old course.searched_at k course.kept course.found) searches course.search;
+  after = after_as decide same course.kept course.found course.searched_at new r decides course.after;
+}
+
+-- a course of a new client by these terms
+live : {V : Type 0} {H : V → Type 0} (own : CustomVerdict V H) (settings : LiveSettings) (p : Prepared V H) (old new : Wire) (r : Result VerifiedDocuments PullRefusal) → Prepares settings p → IsKept r
+    → Course (collect_for own p.terms p.client.rekor_pub_keys (client_state p.client).settings) (decide_for own p.terms p.client.rekor_pub_keys (client_state p.client).settings) (client_state p.client).kept old new r
+    → LiveDocuments settings r old new
+live own settings p old new r prepares kept course =
+    let made = ap (λ (c : State). c.kept) prepares.6 in
+    let same = course_as (collect_for own p.terms p.client.rekor_pub_keys (client_state p.client).settings) (collect_row settings (reference_in p.terms.image))
+    (decide_for own p.terms p.client.rekor_pub_keys (client_state p.client).settings) (decide_row settings (reference_in p.terms.image)) (client_state p.client).kept old new r
+    (collect_is own settings p prepares) (λ answers found. decide_is own settings p answers found prepares) course in
+    let here : Course (collect_row settings (reference_in p.terms.image)) (decide_row settings (reference_in p.terms.image)) (fresh true) old new r =
+    subst (λ (k : Kept). Course (collect_row settings (reference_in p.terms.image)) (decide_row settings (reference_in p.terms.image)) k old new r) made same in
+    record {
+      image = reference_in p.terms.image;
+      reads = prepares.0;
+      course = here;
+      justified = justified settings (reference_in p.terms.image) p.terms.image.direct (fresh true) old new r kept here;
+    }
+
+-- how all of it ends, by the settings
+pub live_ends : {V : Type 0} {H : V → Type 0} (own : CustomVerdict V H) (settings : LiveSettings) (p : Prepared V H) (old new : Wire) (e : Status) → Prepares settings p
+    → Ends (Course (collect_for own p.terms p.client.rekor_pub_keys (client_state p.client).settings) (decide_for own p.terms p.client.rekor_pub_keys (client_state p.client).settings) (client_state p.client).kept old new) e new
+    → Ends (λ r. LiveDocuments settings r old new) e new
+live_ends own settings p old new status.Pulled prepares h = (h.0, live own settings p old new (Ok h.0) prepares tt h.1)
+live_ends own settings p old new status.Refused prepares h = (h.0, h.1, live own settings p old new (Err h.0) prepares h.1 h.2)
+live_ends own settings p old new status.UnreadableSettings prepares h = absurd h
+live_ends own settings p old new status.HostBroken prepares h = h
+live_ends own settings p old new status.SinkFault prepares h = h
+live_ends own settings p old new status.WantOfMemory prepares h = tt

@@ -1,0 +1,5 @@
+pub mod CourseParts
+pub mod Ending
+pub mod Justifies
+pub mod RowsSame
+pub mod Transfers

@@ -1,0 +1,45 @@
+-- A complete run by frames, as a call over a transport that exposes its exchanges: the laws of calls are laws of it.
+use Rattle.std.proofs.Common.{◌≡◌, ℕ, false, List, [], ◌++◌, Option, Some, None, Result, Ok, Err, refl, sym, subst}
+use Rattle.oci_transport.specs.Link.{Link, Extends}
+use Rattle.oci_transport.specs.declared.message.Exchange.{Exchange}
+use Rattle.oci_protocol.specs.Runs.{Meets, Performs, Told}
+use Rattle.registry_calls.specs.Clients.{Kept}
+use Rattle.cosign_rows.specs.Refusal.{is_memory}
+use Rattle.cosign_rows.specs.Verified.{Whole}
+use Rattle.cosign_rows.specs.declared.refusal.PullRefusal.{PullRefusal}
+use Rattle.live_host.specs.Wire.{Wire}
+use Rattle.live_pull.specs.Justified.{Shown}
+use Rattle.live_pull.specs.Pulls.{Transfer}
+
+-- memory did not run out
+abbrev pub IsKept : {A : Type 0} → Result A PullRefusal → Type 0
+IsKept (Ok a) = Unit {0}
+IsKept (Err e) = is_memory e ≡ false
+
+-- a transport that exposes these exchanges
+abbrev pub link_with : List Exchange → ℕ → Link
+link_with c n = record { told = Some c; rest = None; pieces = None; faults = n; exact = false; answers = None }
+
+none_some : {A : Type 0} {P : Type 0} (a : A) → None ≡ Some a → P
+none_some a is = absurd (cc is)
+
+extends : (c : List Exchange) (m n : ℕ) → Extends (link_with [] m) (link_with c n) c
+extends c m n = record {
+  told = λ before is. let same : [] ≡ before = cc is in subst (λ (b : List Exchange). Some c ≡ Some (b ++ c)) same refl;
+  table = λ a before is told. none_some a is;
+  stays = record { exact = refl; steady = λ a is. none_some a is; quiet = λ a is never. none_some a is };
+}
+
+performs : {A : Type 0} (row : Whole A) (old new : Wire) (k l : Kept) (r : Result A PullRefusal) (t : Transfer row old new k l r) → Performs row (link_with [] 0) (link_with t.conversation t.faults) k l r
+performs row old new k l r t = record { conversation = t.conversation; told = extends t.conversation 0 t.faults; runs = t.runs; runs_by = λ answering before is told. none_some answering is }
+
+pub meets : {A : Type 0} (row : Whole A) (old new : Wire) (k l : Kept) (r : Result A PullRefusal) → IsKept r → (t : Transfer row old new k l r) → Meets is_memory row (link_with [] 0) (link_with t.conversation t.faults) k l r
+meets row old new k l (Ok a) kept t = record { outcome = performs row old new k l (Ok a) t }
+meets row old new k l (Err e) kept t = record { outcome = rw kept (performs row old new k l (Err e) t) }
+
+same_exchanges : (c d : List Exchange) → Some c ≡ Some ([] ++ d) → d ≡ c
+same_exchanges c d is = let same : c ≡ d = cc is in sym same
+
+-- what a law says of the exposed exchanges holds for those that the frames carried
+pub shown_by : {A : Type 0} (row : Whole A) (P : List Exchange → Type 0) (old new : Wire) (k l : Kept) (r : Result A PullRefusal) (t : Transfer row old new k l r) → Told P (link_with [] 0) (link_with t.conversation t.faults) → Shown P old new
+shown_by row P old new k l r t told = (t.conversation, t.carried, subst P (same_exchanges t.conversation told.conversation (told.told.told [] refl)) told.holds)

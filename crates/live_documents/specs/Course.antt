@@ -1,0 +1,49 @@
+-- The course of a live pull of documents: the search, the host's answers, the decision, and what is sent.
+use Rattle.std.specs.Prelude.{◌≡◌, List, [], ◌∷◌, ◌++◌, Result, Ok, Err}
+use Rattle.registry_calls.specs.Clients.{Kept}
+use Rattle.cosign_documents.specs.declared.documents.VerifiedDocuments.{VerifiedDocuments}
+use Rattle.cosign_rows.specs.Verified.{Whole}
+use Rattle.cosign_rows.specs.declared.found.TrustedLayers.{TrustedLayers}
+use Rattle.cosign_rows.specs.declared.refusal.PullRefusal.{PullRefusal}
+use Rattle.live_host.specs.Items.{WereTold, decided_sent, documents_sent}
+use Rattle.live_host.specs.Questions.{WereAsked}
+use Rattle.live_host.specs.Wire.{Wire}
+use Rattle.live_host.specs.declared.answers.Answers.{Answers}
+use Rattle.live_pull.specs.Pulls.{Transfer}
+use Rattle.live_pull.specs.Refusals.{RefusalTold}
+
+-- documents, or a refusal, were sent
+abbrev pub DocumentsTold : Result VerifiedDocuments PullRefusal → Wire → Wire → Type 0
+DocumentsTold (Ok d) old new = WereTold (documents_sent d ++ decided_sent d ∷ []) old new
+DocumentsTold (Err refusal) old new = RefusalTold refusal old new
+
+-- the decision, and what was sent for it
+pub record Finished (decide : Whole VerifiedDocuments) (k : Kept) (old new : Wire)
+    (r : Result VerifiedDocuments PullRefusal) : Type 0 where
+  pub decided_at : Wire
+  pub left : Kept
+  pub decision : Transfer decide old decided_at k left r
+  pub given : DocumentsTold r decided_at new
+
+-- the host was asked about the layers found, and its answers decided
+pub record AskedAndDecided (decide : Answers → TrustedLayers → Whole VerifiedDocuments) (k : Kept)
+    (found : TrustedLayers) (old new : Wire) (r : Result VerifiedDocuments PullRefusal) : Type 0 where
+  pub asked_at : Wire
+  pub answers : Answers
+  pub questions : WereAsked answers.list old asked_at
+  pub finished : Finished (decide answers found) k asked_at new r
+
+-- what follows the search: its error was sent; or the host was asked, and the documents were decided on
+abbrev pub AfterSearch : (Answers → TrustedLayers → Whole VerifiedDocuments) → Kept
+    → Result TrustedLayers PullRefusal → Wire → Wire → Result VerifiedDocuments PullRefusal → Type 0
+AfterSearch decide k (Ok found) old new r = AskedAndDecided decide k found old new r
+AfterSearch decide k (Err e) old new r = (r ≡ Err e) × RefusalTold e old new
+
+-- a search, and what follows it
+pub record Course (collect : Whole TrustedLayers) (decide : Answers → TrustedLayers → Whole VerifiedDocuments)
+    (k : Kept) (old new : Wire) (r : Result VerifiedDocuments PullRefusal) : Type 0 where
+  pub searched_at : Wire
+  pub kept : Kept
+  pub found : Result TrustedLayers PullRefusal
+  pub search : Transfer collect old searched_at k kept found
+  pub after : AfterSearch decide kept found searched_at new r

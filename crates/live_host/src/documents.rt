@@ -1,0 +1,127 @@
+// Sending the documents of an image.
+ghost use Rattle.std.specs.Prelude.{◌≡◌, IfErr, OnOk};
+ghost use Rattle.live_host.specs.Heads.{kind_name};
+ghost use Rattle.live_host.specs.HostErrors.{HostCause};
+ghost use Rattle.live_host.specs.Wire.{wire, SendsFrame};
+ghost use Rattle.live_host.specs.Items.{WereTold, list_sent, own_manifest_sent, signature_sent};
+ghost use Rattle.live_host.specs.Items.{documents_sent, decided_sent};
+
+use crate::heads::{pulled_head, signature_head};
+use crate::image::{INDEX_TYPE, MANIFEST_TYPE};
+use crate::items::give_document;
+use crate::streams::{HostError, Streams, tell};
+use byte_streams::{Sink, Source};
+use cosign_documents::VerifiedDocuments;
+use cosign_parts::{LayerKind, SignatureLayer};
+use std::alloc::Global;
+
+// The index, if one led to the manifest.
+fn give_list<S: Source, K: Sink>(
+    alloc: Global,
+    streams: &mut Streams<S, K>,
+    documents: &VerifiedDocuments,
+) -> Result<(), HostError>
+    ensures told { OnOk result (WereTold (list_sent documents.now documents.now.list_digest)
+        (wire S.state K.state streams.old) (wire S.state K.state streams.new)) }
+    ensures cause { IfErr result (λ e. HostCause e (wire S.state K.state streams.new)) }
+{
+    let Some(digest) = &documents.list_digest else {
+        return Ok(());
+    };
+    give_document(
+        alloc,
+        streams,
+        "index",
+        INDEX_TYPE,
+        digest,
+        &documents.first,
+    )?;
+    Ok(())
+}
+
+fn give_own_manifest<S: Source, K: Sink>(
+    alloc: Global,
+    streams: &mut Streams<S, K>,
+    documents: &VerifiedDocuments,
+) -> Result<(), HostError>
+    ensures told { OnOk result (SendsFrame (own_manifest_sent documents.now).0 (own_manifest_sent documents.now).1
+        (wire S.state K.state streams.old) (wire S.state K.state streams.new)) }
+    ensures cause { IfErr result (λ e. HostCause e (wire S.state K.state streams.new)) }
+{
+    let digest = &documents.manifest_digest;
+    give_document(
+        alloc,
+        streams,
+        "manifest",
+        MANIFEST_TYPE,
+        digest,
+        &documents.manifest_bytes,
+    )?;
+    Ok(())
+}
+
+// The name of a signature layer's form.
+fn kind_name(kind: LayerKind) -> &'static str
+    ensures { result.now ≡ kind_name kind }
+{
+    match kind {
+        LayerKind::Payload => "payload",
+        LayerKind::Bundle => "bundle",
+    }
+}
+
+fn give_signature<S: Source, K: Sink>(
+    alloc: Global,
+    streams: &mut Streams<S, K>,
+    layer: &SignatureLayer,
+) -> Result<(), HostError>
+    ensures told { OnOk result (SendsFrame (signature_sent layer.now).0 (signature_sent layer.now).1
+        (wire S.state K.state streams.old) (wire S.state K.state streams.new)) }
+    ensures cause { IfErr result (λ e. HostCause e (wire S.state K.state streams.new)) }
+{
+    let head = signature_head(
+        alloc,
+        kind_name(layer.kind),
+        &layer.oci_digest,
+        &layer.annotations,
+        &layer.content,
+    )?;
+    tell(alloc, streams, &head, layer.content.as_slice())?;
+    Ok(())
+}
+
+/// Sends the documents of an image, and the signature layer that stands for its digest.
+pub fn give_documents<S: Source, K: Sink>(
+    alloc: Global,
+    streams: &mut Streams<S, K>,
+    documents: &VerifiedDocuments,
+) -> Result<(), HostError>
+    ensures told { OnOk result (WereTold (documents_sent documents.now)
+        (wire S.state K.state streams.old) (wire S.state K.state streams.new)) }
+    ensures cause { IfErr result (λ e. HostCause e (wire S.state K.state streams.new)) }
+{
+    give_list(alloc, streams, documents)?;
+    give_own_manifest(alloc, streams, documents)?;
+    give_signature(alloc, streams, &documents.signature)?;
+    Ok(())
+}
+
+/// Sends that the documents of an image were pulled, after which nothing is sent.
+pub fn give_end<S: Source, K: Sink>(
+    alloc: Global,
+    streams: &mut Streams<S, K>,
+    documents: &VerifiedDocuments,
+) -> Result<(), HostError>
+    ensures told { OnOk result (SendsFrame (decided_sent documents.now).0 (decided_sent documents.now).1
+        (wire S.state K.state streams.old) (wire S.state K.state streams.new)) }
+    ensures cause { IfErr result (λ e. HostCause e (wire S.state K.state streams.new)) }
+{
+    let head = pulled_head(
+        alloc,
+        &documents.digest,
+        &documents.manifest_digest,
+        &documents.signature.oci_digest,
+    )?;
+    tell(alloc, streams, &head, &[])?;
+    Ok(())
+}
