@@ -1,0 +1,10 @@
+pub mod Confining
+pub mod Copied
+pub mod Copying
+pub mod Images
+pub mod Mirroring
+pub mod Planned
+pub mod Pushing
+pub mod Repeats
+pub mod TargetSides
+pub mod Typed

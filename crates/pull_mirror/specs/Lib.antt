@@ -1,0 +1,11 @@
+pub mod Copies
+pub mod Errors
+pub mod Every
+pub mod Found
+pub mod Plans
+pub mod Pushes
+pub mod Sides
+pub mod Signatures
+pub mod Stopped
+pub mod Targets
+pub mod Underway

@@ -1,0 +1,16 @@
+//! Copies verified images to another registry: an image is pulled only if a trusted signature stands for it, and
+//! exactly its bytes are pushed, with that signature.
+#![tactic(auto)]
+
+mod copies;
+mod outcomes;
+mod planning;
+mod refusals;
+mod sending;
+mod signatures;
+mod targets;
+
+pub use copies::mirror;
+pub use refusals::{MirrorError, MirrorReport, PushRefusal, PushReport};
+pub use sending::push_image;
+pub use targets::is_target;
