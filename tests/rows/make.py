@@ -1331,8 +1331,9 @@ TABLES = {
 
 if __name__ == "__main__":
     from locks import locks
+    from mirrors import mirrors
 
-    TABLES["locks"] = locks
+    TABLES |= {"locks": locks, "mirrors": mirrors}
     for table, make in TABLES.items():
         shutil.rmtree(os.path.join(HERE, table), ignore_errors=True)
         make()

@@ -24,8 +24,8 @@ fn arguments<R: Env + Alloc>(rt: &R, alloc: Global) -> io::Result<List<Text>> {
 fn advice(status: u8) -> &'static str {
     match status {
         2 =>
-            "usage: pull_program with pull, canon, check, lock, lockcheck or review, each < INPUT, or gen N with N from 1 to \
-             1000",
+            "usage: pull_program with pull, canon, check, lock, lockcheck, review or mirror, each < INPUT, or gen N with N \
+             from 1 to 1000",
         3 =>
             "the input is not a case (see crates/recorded_case/README.md for its members), or not what the subcommand reads",
         4 => "the input could not be read",

@@ -6,6 +6,8 @@ use Rattle.recorded_chain.specs.Input.{chain_input_in}
 use Rattle.locked_cases.specs.Checks.{ChecksLock}
 use Rattle.locked_cases.specs.Input.{cases_in, check_in}
 use Rattle.locked_cases.specs.Locks.{LocksCases}
+use Rattle.mirrored_cases.specs.Input.{mirror_input_in}
+use Rattle.mirrored_cases.specs.Reports.{ReportsMirror}
 use Rattle.reviewed_cases.specs.Input.{review_input_in}
 use Rattle.reviewed_cases.specs.Responses.{ReportsReview}
 use Rattle.pull_run.specs.Canon.{PrintsValue}
@@ -13,7 +15,7 @@ use Rattle.pull_run.specs.Check.{PrintsVerdict}
 use Rattle.pulled_cases.specs.Pulls.{ReportsCase}
 use Rattle.pulled_cases.specs.declared.report.Report.{Report}
 use Rattle.pull_run.specs.declared.word.Word.{Word}
-use Rattle.pull_run.specs.declared.word.Word.TheVariants.{Pull, Canon, Check, Lock, LockCheck, Review}
+use Rattle.pull_run.specs.declared.word.Word.TheVariants.{Pull, Canon, Check, Lock, LockCheck, Review, Mirror}
 
 -- what the input must parse as, and the output for it
 pub record Task : Type 1 where
@@ -32,3 +34,4 @@ task_of Check = task_by chain_input_in PrintsVerdict
 task_of Lock = task_by cases_in LocksCases
 task_of LockCheck = task_by check_in ChecksLock
 task_of Review = task_by review_input_in ReportsReview
+task_of Mirror = task_by mirror_input_in ReportsMirror

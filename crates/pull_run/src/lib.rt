@@ -1,5 +1,5 @@
 //! The subcommands of the program: pulls of a recorded case with their report, canonical texts of JSON, whether a
-//! recorded chain holds, lock files, and responses to admission reviews.
+//! recorded chain holds, lock files, responses to admission reviews, and mirrors.
 #![tactic(auto)]
 
 mod canon;
@@ -8,6 +8,7 @@ mod command;
 mod generated;
 mod input;
 mod lock;
+mod mirror;
 mod output;
 mod program;
 mod pull;

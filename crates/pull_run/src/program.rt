@@ -15,6 +15,7 @@ use crate::word::Word;
 use byte_streams::{Sink, Source};
 use json_values::{Json, Text};
 use locked_cases::{CheckInput, LockInput};
+use mirrored_cases::MirrorInput;
 use recorded_case::Case;
 use recorded_chain::ChainInput;
 use reviewed_cases::ReviewInput;
@@ -46,6 +47,7 @@ fn serve_word<S: Source, K: Sink>(alloc: Global, word: Word, source: &mut S, sin
         Word::Lock => serve::<LockInput, S, K>(alloc, source, sink),
         Word::LockCheck => serve::<CheckInput, S, K>(alloc, source, sink),
         Word::Review => serve::<ReviewInput, S, K>(alloc, source, sink),
+        Word::Mirror => serve::<MirrorInput, S, K>(alloc, source, sink),
     }
 }
 

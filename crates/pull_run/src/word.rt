@@ -19,6 +19,8 @@ pub enum Word {
     LockCheck,
     /// Writes the response to the admission review in the input.
     Review,
+    /// Pulls the image of the case in the input, pushes it to the target, and writes a report.
+    Mirror,
 }
 
 /// Returns the subcommand that these arguments select, or `None` if they match no supported form.
@@ -32,6 +34,7 @@ pub fn word_of(words: &[Text]) -> Option<Word>
         [word] if word.as_str() == "lock" => Some(Word::Lock),
         [word] if word.as_str() == "lockcheck" => Some(Word::LockCheck),
         [word] if word.as_str() == "review" => Some(Word::Review),
+        [word] if word.as_str() == "mirror" => Some(Word::Mirror),
         _ => None,
     }
 }

@@ -1,0 +1,28 @@
+// The subcommand `mirror`: an image that is pulled from one registry and pushed to another.
+ghost use Rattle.std.specs.Prelude.{◌≡◌, IfOk, IfSome};
+ghost use Rattle.mirrored_cases.specs.Input.{IsForMirror, mirror_input_in};
+ghost use Rattle.mirrored_cases.specs.Reports.{ReportsMirror};
+
+use crate::task::Task;
+use mirrored_cases::{MirrorInput, mirror_case, read_mirror_input};
+use pulled_cases::Report;
+use std::alloc::{AllocError, Global};
+
+impl Task for MirrorInput {
+    ghost reads = { mirror_input_in };
+
+    ghost Valid = { IsForMirror };
+
+    ghost Gives = { ReportsMirror };
+
+    fn read(alloc: Global, bytes: &[u8]) -> Result<Option<MirrorInput>, AllocError>
+        ensures exact { IfOk result (λ found. found ≡ mirror_input_in bytes.now) }
+        ensures valid { IfOk result (λ found. IfSome found IsForMirror) }
+    {
+        read_mirror_input(alloc, bytes)
+    }
+
+    fn make(self, alloc: Global) -> Result<Report, AllocError> {
+        mirror_case(alloc, self)
+    }
+}
