@@ -53,6 +53,8 @@ fn pushed(
 
 const UPLOADS: &str = "http://localhost:5000/v2/app/blobs/uploads/";
 
+const MANIFEST: &str = "http://localhost:5000/v2/app/manifests/v1";
+
 const LAYER_END: &str =
     "http://localhost:5000/2?digest=sha256%3Ab94d27b9934d3e08a52e52d7da7dabfac484efe37a5380ee9088f7ace2efcde9";
 
@@ -68,6 +70,17 @@ fn asks(script: &Script, place: usize, method: Method, url: &str, body: &str, ra
         value: range,
     };
     is_asked(script, place, &asked)
+}
+
+// Whether a manifest was sent to this URL at this index.
+fn sends_manifest(script: &Script, place: usize, url: &str) -> bool {
+    let Some(exchange) = script.conversation().as_slice().get(place) else {
+        return false;
+    };
+    let request = &exchange.request;
+    request.method == Method::Put
+        && request.url.as_str() == url
+        && !request.body.as_slice().is_empty()
 }
 
 // Whether this request for a token was sent at each even place.
@@ -125,6 +138,7 @@ fn in_order(alloc: Global) -> Result<bool, AllocError> {
                 "0-1",
             )
             && asks(&script, 11, Method::Put, CONFIG_END, "", "")
+            && sends_manifest(&script, 13, MANIFEST)
             && script.conversation().as_slice().len() == 14,
     )
 }
@@ -174,4 +188,43 @@ fn blobs_go_under_the_digests_of_a_manifest_with_as_many_layers(rt: HostRuntime)
     let config = "http://localhost:5000/4?digest=sha256%3Ac";
     assert!(rt; goes_to(alloc, ONE_LAYER, layer, config).unwrap_or(false));
     assert!(rt; goes_to(alloc, NO_LAYER, LAYER_END, config).unwrap_or(false));
+}
+
+// Whether the manifest's URL is the one by its digest, where the registry names none.
+fn is_named_by_digest(alloc: Global) -> Result<bool, AllocError> {
+    let answers = [
+        (202, "/1"),
+        (202, "/2"),
+        (201, "/b"),
+        (202, "/3"),
+        (202, "/4"),
+        (201, "/c"),
+        (201, ""),
+    ];
+    let mut script = registry(alloc, &answers)?;
+    let mut client = client(alloc)?;
+    let image = image(alloc, "localhost:5000/app:v1", "")?;
+    let layers = layers(alloc)?;
+    let config = config(alloc)?;
+    let auth = RegistryAuth::Bearer(Text::new(alloc, "t")?);
+    let Ok(pushed) = client.push(
+        alloc,
+        &mut script,
+        100,
+        &image,
+        layers.as_slice(),
+        config,
+        &auth,
+        None,
+    ) else {
+        return Ok(false);
+    };
+    let url = pushed.manifest_url.as_str();
+    let named = url.strip_prefix("http://localhost:5000/v2/app/manifests/sha256:");
+    Ok(named.is_some() && sends_manifest(&script, 6, MANIFEST))
+}
+
+#[test]
+fn an_image_without_a_location_is_named_by_its_manifest(rt: HostRuntime) {
+    assert!(rt; is_named_by_digest(rt.alloc()).unwrap_or(false));
 }

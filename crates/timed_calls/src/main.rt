@@ -1,20 +1,24 @@
 //! Calls to be timed, by the first argument. Reads a manifest from standard input and writes it again: by its table
 //! (`documents`), or as plain JSON (`json`). Or reads a bundle, and writes its signature (`bundle`). Or pulls a blob of
 //! `MIB` MiB as a stream (`stream MIB DIGEST`), or only hashes the same bytes (`hash MIB DIGEST`); its pieces are made
-//! when they are requested.
+//! when they are requested. Or pushes a blob of `MIB` MiB to a registry that keeps nothing (`push MIB`), only copies the
+//! same bytes (`copy MIB`), pushes an image of `N` layers (`layers N`), or lists `N` thousand tags (`tags N`).
 //!
 //! The exit status is 1 if the digest differs, 2 for other arguments, 3 if the input is no manifest, JSON or bundle, 4
 //! if it could not be read, 5 if the output could not be written, and 6 if memory ran out.
 #![tactic(auto)]
 
+mod accepting;
 mod bundle;
 mod pieces;
+mod pushing;
 mod stream;
 mod ways;
 
 use bundle::bundle_signature;
 use byte_streams::{INPUT_LIMIT, StdSink, StdSource, put_all, read_all};
 use json_values::Blob;
+use pushing::{push_words, pushed};
 use std::alloc::{AllocError, Global};
 use std::env::{self, Env};
 use std::io;
@@ -54,6 +58,9 @@ fn main(rt: HostRuntime) -> ExitCode {
     let alloc = rt.alloc();
     if let Some(asked) = what_words_say(&rt, alloc) {
         return ExitCode::from(timed(alloc, &asked));
+    }
+    if let Some(asked) = push_words(&rt) {
+        return ExitCode::from(pushed(alloc, asked));
     }
     let way = match first_word(&rt) {
         Ok(Some(way)) => way,
