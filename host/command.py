@@ -1,5 +1,6 @@
 """The subcommands: each run, from its options to one sentence, or one JSON object, and a status."""
 import argparse
+import asyncio
 import contextlib
 import math
 import os
@@ -9,13 +10,14 @@ import signal
 import sys
 import time
 from pathlib import Path
-from typing import Any, NoReturn
+from typing import Any, NoReturn, Sized
 
 from host.certificates import Identity
 from host.conversation import Exchanges, converse
 from host.core import Core, Frame
 from host.credentials import credentials
 from host.layout import Layout, Stored
+from host.lock import Lock, Pinned, Sent, entry_of, read_lock, text_of, whole, write_lock
 from host.network import SIGNALS, Network
 from host.options import parser
 from host.places import Access, is_loopback
@@ -49,12 +51,15 @@ def rule_by(option: argparse.Namespace, reference: str) -> Rule:
 class Run:
     """One run of the command, from its options to what the core decided."""
 
-    def __init__(self, option: argparse.Namespace, end: float) -> None:
+    def __init__(self, option: argparse.Namespace, end: float, rule: Rule | None = None) -> None:
         """Reads all that the options name, so that what cannot work is refused before the first request."""
         self.option = option
         self.layout: Layout | None = None
         self.settings: Frame = {"frame": "settings", "accepted": option.type, "blobs": option.word == "pull"}
-        self.registry: Network | Stored
+        self.sent: Sent = []
+        self.registry: Network | Stored | Pinned
+        if option.word in ("lock", "admit") or option.word == "verify" and not option.blobs:
+            self.settings = {"frame": "documents", "accepted": option.type}
         if option.word == "check":
             stored = Stored(Path(option.place), option.tag)
             if option.policy and not option.reference:
@@ -62,14 +67,18 @@ class Run:
             self.rule, self.registry = rule_by(option, option.reference or stored.reference), stored
             self.settings |= {"reference": stored.reference, "protocol": "https", "platform": {"digest": stored.manifest}, "auth": "anonymous"}
         else:
-            self.rule, self.registry = rule_by(option, option.place), self.network(end)
+            self.rule = rule or rule_by(option, option.place)
+            self.registry = network = self.network(end)
+            if option.word == "pull" and option.lock:
+                self.registry = pinned = self.pinned(network)
+                self.settings |= {"reference": pinned.stored.reference, "platform": {"digest": pinned.stored.manifest}}
         self.settings |= self.rule.settings()
         self.core = Core()
 
     def network(self, end: float) -> Network:
         option, repository = self.option, repository_of(self.option.place)
         registry = repository.partition("/")[0]
-        if option.password_stdin != bool(option.username):
+        if bool(option.password_stdin) != bool(option.username):
             raise ValueError("--username and --password-stdin go together")
         auth = {"basic": [option.username, sys.stdin.read().rstrip("\r\n")]} if option.username else credentials(repository, option.authfile)
         plain = option.http or is_loopback(registry) and not (option.ca or option.client_cert)
@@ -77,6 +86,15 @@ class Run:
                           "platform": option.platform or f"linux/{MACHINE}"}
         access = Access(registry, plain, option.allow_host, option.ca, option.client_cert, option.client_key, option.proxy)
         return Network(access, option.timeout, end, option.limit)
+
+    def pinned(self, network: Network) -> Pinned:
+        """The image's entry of the lock file, which is checked first."""
+        lock = read_lock(self.option.lock)
+        entry = lock.entries.get(whole(self.option.place))
+        if not entry:
+            raise End(1, f"{self.option.lock} has no entry for it; add one: roksnaep lock")
+        lock.check(entry, self.rule, self.option.platform)
+        return Pinned(network, entry)
 
     def open_layout(self) -> Layout:
         option, name = self.option, re.split("[:@]", self.option.place.rpartition("/")[2])[0]
@@ -93,6 +111,7 @@ class Run:
         while is_expired:
             signatures, exchanges = Signatures(self.rule), Exchanges(self.registry, self.layout)
             end = converse(self.core, self.settings | {"moment": int(time.time())}, exchanges, signatures)
+            self.sent = exchanges.sent
             is_expired = "UnauthorizedError" in end.get("report", "") and exchanges.accepted and (is_first or exchanges.kept > 0)
             if is_expired:
                 self.core, is_first = Core(), False
@@ -105,6 +124,67 @@ class Run:
             self.layout.finish(name, end["digest"], exchanges.signatures(end["signature"]))
         done = f"pulled {name} to {self.layout.target}" if self.layout else f"{'checked' if self.option.word == 'check' else 'verified'} {name}"
         return 0, f"{done}: {end['digest']}, signed by {end['signature']}{signer and f' ({signer})'}", end | {"signer": signer}
+
+
+def locked(option: argparse.Namespace, end: float) -> tuple[int, str, Frame]:
+    """Verifies each image, and writes the lock file of all of them. One that is refused leaves the old file."""
+    entries = {}
+    for place in option.place:
+        run = Run(argparse.Namespace(**vars(option) | {"place": place}), end)
+        try:
+            status, sentence, rest = run.decide()
+        finally:
+            run.core.process.kill()
+        if status:
+            return status, sentence, rest
+        entry = entry_of(place, option.type, run.sent, rest)
+        entries[entry["image"].encode()] = entry
+    text = text_of([entries[name] for name in sorted(entries)])
+    lock = Lock(str(option.lock), text)
+    for entry in lock.entries.values():
+        lock.check(entry, rule_by(option, entry["image"]), None)
+    write_lock(option.lock, text)
+    return 0, f"locked {counted(entries)} in {option.lock}", {"images": {image: entry["digest"] for image, entry in lock.entries.items()}}
+
+
+def checked(option: argparse.Namespace) -> tuple[int, str, Frame]:
+    """Checks a lock file without a network; and that it has each image that is named."""
+    lock = read_lock(option.lock)
+    for place in option.place:
+        if whole(place) not in lock.entries:
+            raise End(1, f"it has no entry for {place}; add one: roksnaep lock")
+    for entry in lock.entries.values():
+        lock.check(entry, rule_by(option, entry["image"]), option.platform)
+    return 0, f"checked {option.lock}: {counted(lock.entries)}, signed as required", {
+        "images": {image: entry["digest"] for image, entry in lock.entries.items()}}
+
+
+def admit(option: argparse.Namespace) -> NoReturn:
+    """Serves an admission webhook until a signal ends it."""
+    try:
+        from host.admission import Webhook, serve
+    except ImportError as error:
+        raise ValueError(f"{error}; apt-get install python3-aiohttp") from None
+    policy, (host, _, port) = Policy(option.policy), option.listen.rpartition(":")
+    given = vars(option) | dict.fromkeys(("username", "password_stdin", "http", "client_cert", "client_key"))
+
+    def decide(text: str, end: float) -> tuple[str, str]:
+        if not (rule := policy.for_reference(text)):
+            return "", f"{text} is covered by no rule of {option.policy}"
+        run = Run(argparse.Namespace(**given | {"place": text}), end, rule)
+        try:
+            status, sentence, rest = run.decide()
+        finally:
+            run.core.process.kill()
+        pinned = text if "@" in text else f"{whole(text)}@{rest['digest']}" if status == 0 else ""
+        return (pinned, "") if status == 0 else ("", sentence)
+
+    asyncio.run(serve(Webhook(decide, option.jobs, option.deadline), host.strip("[]"), int(port), (option.cert, option.private_key), SIGNALS - {signal.SIGALRM}))
+    raise End(4, "by a signal")
+
+
+def counted(entries: Sized) -> str:
+    return f"{len(entries)} image{'' if len(entries) == 1 else 's'}"
 
 
 def hold() -> None:
@@ -121,6 +201,14 @@ def stop(number: int, _: object) -> NoReturn:
 def result(option: argparse.Namespace) -> tuple[int, str, Frame]:
     """The status, the sentence, and what else the JSON object has."""
     with contextlib.ExitStack() as after:
+        if option.word in ("lock", "lockcheck", "admit"):
+            try:
+                if option.word == "admit":
+                    admit(option)
+                end = time.monotonic() + option.deadline if option.deadline else math.inf
+                return locked(option, end) if option.word == "lock" else checked(option)
+            except (OSError, ValueError) as error:
+                raise End(2, str(error)) from None
         try:
             run = Run(option, time.monotonic() + option.deadline if option.deadline else math.inf)
             after.callback(run.core.process.kill)
@@ -151,8 +239,9 @@ def main(words: list[str]) -> int:
             if signal.getsignal(number) != signal.SIG_IGN:  # as nohup has it
                 signal.signal(number, stop)
         option = parser().parse_args(words)
-        place = option.place
-        signal.setitimer(signal.ITIMER_REAL, option.deadline)
+        place = str(option.lock) if option.word == "lockcheck" else " ".join(option.place) if option.word == "lock" else getattr(option, "place", "admission")
+        if option.word != "admit":
+            signal.setitimer(signal.ITIMER_REAL, option.deadline)
         status, sentence, rest = result(option)
     except End as end:
         status, why = end.args

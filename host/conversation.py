@@ -1,22 +1,30 @@
 """The conversation with the core: its frames are answered until one says how the pull ended."""
 import json
 import re
-from typing import BinaryIO
+from typing import BinaryIO, Protocol
 from urllib.parse import urlsplit
 
 from host.core import PIECE, Core, Frame, framed
-from host.layout import BUNDLE, Layout, Stored, blob_name, digest_of
-from host.network import Network
+from host.layout import BUNDLE, Layout, blob_name, digest_of
 from host.signatures import Signatures
 
 BLOB, RECORDED = re.compile(r"/v2/.+/blobs/(sha\d+:[0-9a-f]+)"), 64 << 20
 
 
+class Registry(Protocol):
+    """What answers requests: the network, a layout, or both."""
+    base: str
+    blob: str
+
+    def reply(self, frame: Frame) -> tuple[Frame, bytes]: ...
+
+
 class Exchanges:
     """What the core asks of a registry. The documents of the search are recorded; blobs of the image are kept in the layout, or read there."""
 
-    def __init__(self, registry: Network | Stored, layout: Layout | None) -> None:
+    def __init__(self, registry: Registry, layout: Layout | None) -> None:
         self.registry, self.layout, self.digest = registry, layout, ""
+        self.sent: list[tuple[Frame, bytes]] = []  # the documents that the core sent, if they go into no layout
         self.is_search, self.is_signed, self.is_document = True, False, False
         self.bodies, self.held, self.accepted, self.kept = [bytearray()], 0, False, 0
         self.file: BinaryIO | None = None
@@ -95,6 +103,8 @@ def converse(core: Core, settings: Frame, exchanges: Exchanges, signatures: Sign
                     if frame["kind"] == "manifest":
                         layout.manifest = {"mediaType": frame["media_type"], "digest": frame["digest"], "size": frame["bytes"]}
                     layout.add(frame["digest"], body)
+                case "document" | "signature":
+                    exchanges.sent.append((frame, b"".join(body)))
             for _ in body:
                 pass
         return frame

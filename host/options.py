@@ -43,13 +43,14 @@ def parser() -> argparse.ArgumentParser:
     made.add_argument("--version", action=Version, nargs=0, help="prints the version, and which core runs")
     with contextlib.suppress(ImportError):
         __import__("shtab").add_argument_to(made, "--print-completion", help="writes the completion script of a shell")
-    words = made.add_subparsers(dest="word", required=True, metavar="pull|verify|check", help="each has its own --help")
-    for word in ("pull", "verify", "check"):
+    words = made.add_subparsers(dest="word", required=True, metavar="|".join(table_words := [word for word in table if word != "options"]), help="each has its own --help")
+    for word in table_words:
         of = table[word]
         description = f"{of['help'][0].upper()}{of['help'][1:]}."
-        one = words.add_parser(word, help=of["help"], usage=f"roksnaep {word} {of['place']} [options]", description=description,
+        one = words.add_parser(word, help=of["help"], usage=f"roksnaep {word} {of.get('usage', of['place'])} [options]", description=description,
                                epilog=f"{of['examples']}\n{STATUSES}", formatter_class=argparse.RawDescriptionHelpFormatter)
-        one.add_argument("place", metavar=of["place"])
+        if of["place"]:
+            one.add_argument("place", metavar=of["place"], **({"nargs": of["nargs"]} if "nargs" in of else {}))
         for title in of["groups"]:
             group = one.add_argument_group(title)
             for names, option in table["options"][title].items():

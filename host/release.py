@@ -47,13 +47,14 @@ def unpacked(name: str) -> Path:
 
 def program(name: str) -> tuple[Path, str]:
     """The program, and which one it is."""
-    named, crate = os.environ.get("ROKSNAEP_CORE") if name == "roksnaep-core" else None, name.replace("-", "_")
+    variable = "ROKSNAEP_CORE" if name == "roksnaep-core" else "ROKSNAEP_PROGRAM"
+    named, crate = os.environ.get(variable), name.replace("-", "_")
     built = TOP / "crates" / crate / "out" / crate
-    for path, which in ((Path(named or ""), "named by ROKSNAEP_CORE"), (TOP / "bin" / name, "installed"), (built, "built here")):
+    for path, which in ((Path(named or ""), f"named by {variable}"), (TOP / "bin" / name, "installed"), (built, "built here")):
         if path.is_file() or named:
             return path, which
     if os.uname().machine != "x86_64" or not DIST.is_dir():
-        raise ValueError(f"there is no {name} here; build it from its sources (make core program), or name a core by ROKSNAEP_CORE")
+        raise ValueError(f"there is no {name} here; build it from its sources (make core program), or name it by {variable}")
     return unpacked(name), "released"
 
 

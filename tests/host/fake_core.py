@@ -39,7 +39,7 @@ def answered(frame, body=b""):
 
 class Pull:
     def __init__(self, settings):
-        self.settings = settings
+        self.settings, self.layer = settings, ({"digest": "sha256:none", "annotations": {}}, b"")
         first, slash, rest = settings["reference"].partition("/")
         assert slash, "the fake core wants a registry in the reference"
         name, _, self.digest = rest.partition("@")
@@ -96,6 +96,7 @@ class Pull:
         signature = manifest["layers"][0]["annotations"]["dev.cosignproject.cosign/signature"]
         for key in self.settings["keys"]:
             if answered({"frame": "verify", "key": key, "signature": signature, "bytes": len(payload)}, payload)[0]["valid"]:
+                self.layer = manifest["layers"][0], payload
                 return manifest["layers"][0]["digest"]
         raise Refused(f'refused Unsatisfied "{digest}"\ncollected {manifest["layers"][0]["digest"]}\n')
 
@@ -111,9 +112,14 @@ class Pull:
         signature = self.signature(digest)
         judged, _ = answered({"frame": "judge", "certificate": "AA==", "integrated_time": 1})
         assert judged == {"frame": "vouched", "vouched": None}
-        blobs = [(kind, blob, self.blob(blob)) for kind, blob in [("config", manifest["config"]), *(("layer", layer) for layer in manifest["layers"])]]
+        is_whole = self.settings["frame"] == "settings"
+        named = [("config", manifest["config"]), *(("layer", layer) for layer in manifest["layers"])]
+        blobs = [(kind, blob, self.blob(blob)) for kind, blob in named if is_whole]
         write({"frame": "document", "kind": "manifest", "media_type": manifest["mediaType"], "digest": digest, "bytes": len(document)}, document)
-        for kind, blob, content in blobs if self.settings["blobs"] else ():
+        if not is_whole:
+            layer, payload = self.layer
+            write({"frame": "signature", "kind": "payload", "digest": layer["digest"], "annotations": layer["annotations"], "bytes": len(payload)}, payload)
+        for kind, blob, content in blobs if self.settings.get("blobs") else ():
             head = {"frame": "blob", "kind": kind, "media_type": blob["mediaType"], "digest": blob["digest"], "bytes": len(content)}
             if os.environ.get("FAKE") == "early":
                 write(head, content[: len(content) // 2])

@@ -119,7 +119,7 @@ class WithFolder(unittest.TestCase):
 
     def environment(self, fake="", **more):
         kept = {name: value for name, value in os.environ.items() if name in ("PATH", "LANG", "HOME")}
-        return {name: value for name, value in (kept | {"ROKSNAEP_CORE": str(HERE / "fake_core.py"), "FAKE": fake, "DOCKER_CONFIG": str(self.folder)} | more).items() if value is not None}
+        return {name: value for name, value in (kept | {"ROKSNAEP_CORE": str(HERE / "fake_core.py"), "ROKSNAEP_PROGRAM": str(HERE / "fake_program.py"), "FAKE": fake, "DOCKER_CONFIG": str(self.folder)} | more).items() if value is not None}
 
     def start(self, *words, fake="", env=None, **more):
         return subprocess.Popen([TOP / "bin/roksnaep", *words], stdin=subprocess.PIPE, stdout=more.pop("stdout", subprocess.PIPE),

@@ -47,7 +47,7 @@ class Command(WithFolder):
         with registry(documents=self.signed()) as (place, _), registry(_blobs_=lambda h: h.answer(200, b"x", [("Content-Length", "9")])) as (bad, _):
             for where, status in ((place, 0), (bad, 1)):
                 ours, theirs = os.openpty()
-                words = [TOP / "bin/roksnaep", "verify", f"{where}/app:v1", "--key", self.key, "--timeout", "1"]
+                words = [TOP / "bin/roksnaep", "verify", "--blobs", f"{where}/app:v1", "--key", self.key, "--timeout", "1"]
                 done = subprocess.run(words, stderr=theirs, stdout=subprocess.DEVNULL, env=self.environment(), timeout=60)
                 os.close(theirs)
                 self.assertEqual(done.returncode, status)
@@ -229,8 +229,12 @@ class Command(WithFolder):
         self.assertEqual((status, "secret" in err, "https://r.io/x " in err), (1, False, True))
 
     def test_settings(self):
-        status, _, err = self.run_it("verify", "r.example/a/b:c", "--key", str(self.key), "--annotation", "a=1", "--annotation", "b=x=y",
-                                     "--platform", "linux/arm64", "--type", "x/y", "--predicate-type", "https://slsa.dev/provenance/v1", "-v", fake="settings")
+        words = ("verify", "r.example/a/b:c", "--key", str(self.key), "--annotation", "a=1", "--annotation", "b=x=y",
+                 "--platform", "linux/arm64", "--type", "x/y", "--predicate-type", "https://slsa.dev/provenance/v1", "-v")
+        status, _, err = self.run_it(*words, fake="settings")
+        self.assertIn('\\"frame\\": \\"documents\\"', err)
+        self.assertNotIn("blobs", err)
+        status, _, err = self.run_it(*words, "--blobs", fake="settings")
         self.assertEqual(status, 1)
         found = json.loads(json.loads(err.splitlines()[1].partition("Settings ")[2]))
         self.assertEqual(found.pop("keys"), [base64.b64encode(self.key.read_bytes()).decode()])
@@ -263,7 +267,7 @@ class Command(WithFolder):
             count.clear()
             with registry(_blobs_=expired) as (place, handler):
                 (self.folder / "config.json").write_text(json.dumps({"auths": {place: {"auth": pair}}}))
-                words = ["--out", "out/image"] if word == "pull" else []
+                words = ["--out", "out/image"] if word == "pull" else ["--blobs"]
                 status, out, err = self.run_it(word, f"{place}/app:v1", "--key", str(self.key), *words)
                 self.assertEqual((status, err, len(count)), (0, "", blobs))
         with registry(_blobs_=lambda handler: handler.answer(401, b"")) as (place, handler):

@@ -1,0 +1,84 @@
+#!/usr/bin/python3
+"""Tests of lock files over a core and a program that believe almost everything: what is written, checked offline, and pulled."""
+import json
+import unittest
+
+from support import LAYERS, MANIFEST, WithFolder, digest_of, manifest_of, openssl, registry
+
+from host.lock import text_of, whole
+
+
+class Locks(WithFolder):
+    def lock(self, *references, **more):
+        return self.run_it("lock", *references, "--key", str(self.key), **more)
+
+    def check(self, *words, key=None):
+        return self.run_it("lockcheck", *words, "--key", str(key or self.key))
+
+    def test_locks_checks_and_pulls(self):
+        with registry(documents=self.signed()) as (place, handler):
+            image, file = f"{place}/app:v1", self.folder / "roksnaep.lock"
+            self.assertEqual(self.lock(image), (0, "locked 1 image in roksnaep.lock\n", ""))
+            self.assertFalse([path for _, path, _ in handler.seen if digest_of(LAYERS[0]) in path])
+            entry, = json.loads(file.read_text())["entries"]
+            self.assertEqual((entry["image"], entry["digest"], entry["first"]), (image, digest_of(MANIFEST), MANIFEST.decode()))
+            self.assertEqual((entry["signature"]["kind"], entry["signature"]["content"]), ("payload", self.signature[2].decode()))
+            self.assertEqual(file.read_text(), text_of([entry]))
+            moved = manifest_of(b"{}", [b"another layer"])
+            handler.documents["/v2/app/manifests/v1"] = moved
+            del handler.documents[f"/v2/app/manifests/{digest_of(MANIFEST).replace(':', '-')}.sig"]
+            handler.seen.clear()
+            self.assertEqual(self.check(image), (0, "checked roksnaep.lock: 1 image, signed as required\n", ""))
+            self.assertEqual(handler.seen, [])
+            status, out, err = self.pull(place, "--lock", "roksnaep.lock")
+            self.assertEqual((status, err), (0, ""))
+            self.assertTrue(out.startswith(f"pulled {image} to out/image: {digest_of(MANIFEST)}, signed by "), out)
+            self.assertFalse([path for _, path, _ in handler.seen if "/manifests/" in path])
+            for content in (MANIFEST, *LAYERS):
+                self.assertIn(digest_of(content)[7:], self.blobs("out/image"))
+
+    def test_refuses_another_key(self):
+        with registry(documents=self.signed()) as (place, _):
+            self.assertEqual(self.lock(f"{place}/app:v1")[0], 0)
+        openssl("ecparam", "-name", "prime256v1", "-genkey", "-noout", "-out", self.folder / "other")
+        openssl("ec", "-in", self.folder / "other", "-pubout", "-out", self.folder / "other.pub")
+        status, _, err = self.check(key=self.folder / "other.pub")
+        self.assertEqual(status, 1)
+        self.assertTrue(err.startswith(f"refused roksnaep.lock: {place}/app:v1: no signature of {digest_of(MANIFEST)} matches the given keys"), err)
+
+    def test_refuses_what_was_edited(self):
+        file = self.folder / "roksnaep.lock"
+        with registry(documents=self.signed()) as (place, _):
+            self.assertEqual(self.lock(f"{place}/app:v1")[0], 0)
+        text = file.read_text()
+        for edited, told in ((text + "\n", "was edited: it is not the text that `roksnaep lock` writes; write it anew: roksnaep lock"),
+                             ("{", "is not a lock file; write it anew: roksnaep lock")):
+            file.write_text(edited)
+            status, out, err = self.check()
+            self.assertEqual((status, out), (1, ""))
+            self.assertIn(told, err)
+        file.write_bytes(b"\xff")
+        self.assertIn("is not a lock file", self.check()[2])
+        file.write_text(text)
+        self.assertEqual(self.check(f"{place}/other:v1")[::2], (1, f"refused roksnaep.lock: it has no entry for {place}/other:v1; add one: roksnaep lock\n"))
+        status, _, err = self.run_it("pull", f"{place}/other:v1", "--key", str(self.key), "--lock", "roksnaep.lock")
+        self.assertEqual((status, err), (1, f"refused {place}/other:v1: roksnaep.lock has no entry for it; add one: roksnaep lock\n"))
+        file.unlink()
+        self.assertEqual(self.check()[::2], (2, "roksnaep: there is no lock file roksnaep.lock; write one: roksnaep lock\n"))
+
+    def test_a_refused_image_leaves_the_old_file(self):
+        file = self.folder / "roksnaep.lock"
+        file.write_text("old")
+        with registry(documents=self.signed()) as (place, _):
+            status, _, err = self.lock(f"{place}/app:v1", f"{place}/app:none")
+        self.assertEqual((status, file.read_text(), sorted(path.name for path in self.folder.iterdir())), (1, "old", ["private", "public", "roksnaep.lock"]))
+        self.assertTrue(err.startswith(f"refused {place}/app:none: "), err)
+
+    def test_whole_references(self):
+        for reference, text in (("app", "docker.io/library/app:latest"), ("team/app:v1", "docker.io/team/app:v1"), ("localhost:5000/app", "localhost:5000/app:latest"),
+                                ("localhost/app:v1@sha256:00", "localhost/app:v1@sha256:00"), ("localhost/app@sha256:00", "localhost/app@sha256:00")):
+            self.assertEqual(whole(reference), text)
+
+
+if __name__ == "__main__":
+    unittest.main()
