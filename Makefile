@@ -35,7 +35,7 @@ install:
 	for name in roksnaep-core pull_program; do install -m 755 "$$(tests/release path $$name)" $(LIBRARY)/bin/$$name || exit 1; done
 	ln -sfn ../lib/roksnaep/bin/roksnaep $(DESTDIR)$(PREFIX)/bin/roksnaep
 	tests/manual | gzip -9n > $(SHARE)/man/man1/roksnaep.1.gz
-	install -m 644 LICENSE host/README.md docs/HOST.md docs/POLICY.md docs/SECURITY.md $(SHARE)/doc/roksnaep
+	install -m 644 LICENSE host/README.md docs/HOST.md docs/POLICY.md docs/ADMISSION.md docs/SECURITY.md $(SHARE)/doc/roksnaep
 	bin/roksnaep --print-completion bash > $(SHARE)/bash-completion/completions/roksnaep || rm $(SHARE)/bash-completion/completions/roksnaep
 	bin/roksnaep --print-completion zsh > $(SHARE)/zsh/vendor-completions/_roksnaep || rm $(SHARE)/zsh/vendor-completions/_roksnaep
 
@@ -48,6 +48,7 @@ deb:
 	printf '%s\n' "Package: roksnaep" "Version: $(VERSION)" "Architecture: amd64" "Section: utils" "Priority: optional" \
 	  "Maintainer: Roksnaep <roksnaep@localhost>" "Installed-Size: $$(du -sk $(DEB) | cut -f1)" \
 	  "Depends: libc6 (>= 2.34), python3 (>= 3.11), python3-pycurl, python3-cryptography, python3-yaml" \
+	  "Recommends: python3-aiohttp" \
 	  "Description: pulls a container image only if it has a signature that you trust" \
 	  " A command around a proved core: it verifies cosign's signatures, by keys or by" \
 	  " identities, before it writes an image as an OCI image layout or an archive." > $(DEB)/DEBIAN/control
@@ -110,8 +111,10 @@ bench: program $(TIMED)
 	python3 bench/caching.py
 	python3 bench/bundles.py
 	python3 bench/streams.py
+	python3 bench/pushes.py
 	python3 bench/generated.py
 	python3 bench/reviews.py
+	python3 bench/locks.py
 
 # Makes each allocation of the stored run fail in turn.
 allocations: program

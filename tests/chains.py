@@ -257,6 +257,22 @@ def images_of(review):
     return [entry["image"] for name in ("initContainers", "containers", "ephemeralContainers") for entry in spec.get(name, [])]
 
 
+def pushed_for(lines):
+    """The digests that a mirror of the image of this report pushes, but the last: the signature's manifest."""
+    found = {}
+    for line in lines:
+        word, _, rest = line.partition(" ")
+        found.setdefault(word, []).append(rest)
+    blobs = [*found["layer"], found["config"][0], found["signature"][0], "sha256:" + hashlib.sha256(b"{}").hexdigest()]
+    return [*dict.fromkeys(blobs), *(name for name in found["manifest"] if name != found["ok"][0]), found["ok"][0]]
+
+
+def of_pull(lines):
+    """The lines of a mirror's report that are those of its pull: up to the signature, or to what was collected and skipped."""
+    at = next((at for at, line in enumerate(lines) if line.startswith("signature ")), len(lines))
+    return lines[: at + 1]
+
+
 def reports(out):
     """The lines of the report of each moment."""
     found = []
@@ -290,6 +306,11 @@ def main():
             pulled = [lines for lines in reports(out) if any(line.startswith("ok ") for line in lines)]
             images += len(pulled)
             fails = any(all(holds(found, chain) for chain in chains(found, lines)) for lines in pulled)
+        elif word == "mirror" and status == 0:
+            lines = of_pull(out.splitlines())
+            images += 1
+            told = [line.removeprefix("pushed ") for line in out.splitlines() if line.startswith("pushed ")]
+            fails = all(holds(found["case"], chain) for chain in chains(found["case"], lines)) or told[:-1] != pushed_for(lines)
         elif word == "review" and status == 0:
             asked = images_of(found["review"])
             images += len(asked)
