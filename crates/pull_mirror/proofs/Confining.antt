@@ -34,7 +34,7 @@ use Rattle.pull_mirror.specs.Every.{plain}
 
 -- ---- what a row of pushes leaves, whatever the types of its documents
 
-abbrev Left : Entry → {A : Type 0} → AuthState → List Exchange → Result A OciDistributionError → Type 0
+abbrev pub Left : Entry → {A : Type 0} → AuthState → List Exchange → Result A OciDistributionError → Type 0
 Left x l c r = Keeps x l c
 
 pub record Stays (x : Entry) (s : Settings) {A : Type 0} (p : Row A) : Type 0 where

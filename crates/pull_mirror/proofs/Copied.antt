@@ -28,7 +28,7 @@ use Rattle.pull_mirror.proofs.Confining.{Stays, stays_done, stays_next, stays_as
 use Rattle.pull_mirror.proofs.Images.{first_in, document_in_it, signature_in, plain_is}
 
 module _ (k : AuthState) (s : Context) (target : Reference) (handed : Option RegistryAuth) (none : mirror_of target ≡ None) where
-  push_stays : (p : Push) → IsIn target p → Stays (pushing k s target handed) s.settings (push_row s target p)
+  pub push_stays : (p : Push) → IsIn target p → Stays (pushing k s target handed) s.settings (push_row s target p)
   push_stays (Blob digest bytes) h = blob_stays k s target handed bytes digest
   push_stays (Manifest reference digest bytes kind) h =
       subst (λ (t : Reference). Stays (pushing k s t handed) s.settings (push_manifest_raw s reference bytes kind)) (sym (plain_is target none))
@@ -36,7 +36,7 @@ module _ (k : AuthState) (s : Context) (target : Reference) (handed : Option Reg
       (stays_as k s target.registry target.repository target.tag target.digest h.0 h.1 handed (push_manifest_raw s (plain target.registry target.repository h.0 h.1) bytes kind)
       (raw_stays k s (plain target.registry target.repository h.0 h.1) handed bytes kind)))
 
-  all_stays : (ps : List Push) → Every (IsIn target) ps → Stays (pushing k s target handed) s.settings (all_pushed s target ps)
+  pub all_stays : (ps : List Push) → Every (IsIn target) ps → Stays (pushing k s target handed) s.settings (all_pushed s target ps)
   unfolding all_pushed
   all_stays [] h = stays_done (pushing k s target handed) s.settings (Ok tt)
   all_stays (p ∷ ps) h = stays_next (pushing k s target handed) s.settings (push_row s target p) _ (push_stays p h.0) (λ url. all_stays ps h.1)
@@ -63,7 +63,7 @@ push_fault : (s : Context) (target : Reference) (p : Push) {old new : Link} {k l
 push_fault s target (Blob digest bytes) e met is = blob_fault s target bytes digest (Err e) met (ap Err is)
 push_fault s target (Manifest reference digest bytes kind) e met is = raw_fault s reference bytes kind (Err e) met (ap Err is)
 
-still_more : (a b c : ℕ) → a ≤ b → Increased b c → Increased a c
+pub still_more : (a b c : ℕ) → a ≤ b → Increased b c → Increased a c
 still_more a b c le more = omega (arith, le, more)
 
 pub stopped_fault : {s : Context} {target : Reference} {ps : List Push} {old new : Link} {k l : AuthState} {digest : List ℕ} (e : OciDistributionError) → Stopped s target ps old new k l digest e → e ≡ refusal.TransportFault → Increased old.faults new.faults

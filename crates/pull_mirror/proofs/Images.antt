@@ -13,7 +13,7 @@ use Rattle.cosign_chain.specs.declared.image.VerifiedImage.{VerifiedImage}
 use Rattle.cosign_parts.specs.declared.layer.LayerKind.{LayerKind}
 use Rattle.cosign_parts.specs.declared.layer.LayerKind.TheVariants.{Payload, Bundle}
 use Rattle.pull_mirror.specs.Every.{Every, IsIn, plain}
-use Rattle.pull_mirror.specs.Pushes.{Push, Blob, Manifest, push_digest, IsNamed, layer_blobs, sha256_blob, other_blobs, blobs_of, unless_before, is_among, not_before, without_repeats, entry_by, entry_of, document_of, signature_place, signature_push, signature_of, before_document, pushes}
+use Rattle.pull_mirror.specs.Pushes.{Push, Blob, Manifest, push_digest, IsNamed, layer_blobs, sha256_blob, other_blobs, blobs_of, unless_before, is_among, not_before, without_repeats, entry_by, manifest_push, entry_of, document_of, signature_place, signature_push, signature_of, before_document, pushes}
 use Rattle.pull_mirror.specs.Signatures.{signature_text}
 
 -- ---- lists
@@ -27,7 +27,7 @@ module _ (P : Push → Type 0) where
   every_unless true p h = tt
   every_unless false p h = (h, tt)
 
-  every_once : (before : List (List ℕ)) (ps : List Push) → Every P ps → Every P (not_before before ps)
+  pub every_once : (before : List (List ℕ)) (ps : List Push) → Every P ps → Every P (not_before before ps)
   every_once before [] h = tt
   every_once before (p ∷ ps) h = every_both (unless_before (is_among (push_digest p) before) p) (not_before (before ++ push_digest p ∷ []) ps) (every_unless (is_among (push_digest p) before) p h.0) (every_once (before ++ push_digest p ∷ []) ps h.1)
 
@@ -53,7 +53,7 @@ layers_named accepted [] (layer ∷ layers) h = tt
 layers_named accepted (x ∷ xs) [] h = tt
 layers_named accepted (x ∷ xs) (layer ∷ layers) h = (h.0.named, layers_named accepted xs layers h.1)
 
-entry_named : (v : VerifiedImage) (target : Reference) (o : Option (List ℕ)) → ManifestLinks v o → Every IsNamed (entry_by o v target)
+entry_named : (v : VerifiedImage) (target : Reference) (o : Option (List ℕ)) → ManifestLinks v o → Every IsNamed (entry_by o (manifest_push v.manifest_digest v.manifest_bytes target))
 entry_named v target None h = tt
 entry_named v target (Some digest) h = (h.1, tt)
 
@@ -70,7 +70,7 @@ layers_in target [] layers = tt
 layers_in target (x ∷ xs) [] = tt
 layers_in target (x ∷ xs) (layer ∷ layers) = (tt, layers_in target xs layers)
 
-entry_in : (v : VerifiedImage) (target : Reference) (o : Option (List ℕ)) → Every (IsIn target) (entry_by o v target)
+entry_in : (v : VerifiedImage) (target : Reference) (o : Option (List ℕ)) → Every (IsIn target) (entry_by o (manifest_push v.manifest_digest v.manifest_bytes target))
 entry_in v target None = tt
 entry_in v target (Some digest) = ((None, Some v.manifest_digest, refl), tt)
 
@@ -84,9 +84,9 @@ plain_is target none = ap (λ (m : Option (List ℕ)). let r : Reference = recor
 pub document_in_it : (v : VerifiedImage) (target : Reference) → mirror_of target ≡ None → IsIn target (document_of v target)
 document_in_it v target none = (target.tag, target.digest, plain_is target none)
 
-signed_in : (kind : LayerKind) (v : VerifiedImage) (target : Reference) (digest : List ℕ) → (tag digest_of : Option (List ℕ)) × (signature_place kind v target digest ≡ plain target.registry target.repository tag digest_of)
-signed_in Payload v target digest = (_, None, refl)
-signed_in Bundle v target digest = (None, Some digest, refl)
+pub signed_in : (kind : LayerKind) (signed own : List ℕ) (target : Reference) → (tag digest_of : Option (List ℕ)) × (signature_place kind signed own target ≡ plain target.registry target.repository tag digest_of)
+signed_in Payload signed own target = (_, None, refl)
+signed_in Bundle signed own target = (None, Some own, refl)
 
 pub signature_in : (v : VerifiedImage) (target : Reference) → IsIn target (signature_of v target)
-signature_in v target = signed_in v.signature.kind v target (digest_text Sha256 (signature_text v))
+signature_in v target = signed_in v.signature.kind v.digest (digest_text Sha256 (signature_text v.signature v.digest v.first)) target

@@ -1,6 +1,10 @@
+pub mod Asking
+pub mod AskingConfined
 pub mod Confining
 pub mod Copied
 pub mod Copying
+pub mod Digests
+pub mod DocumentCopying
 pub mod Images
 pub mod Mirroring
 pub mod Planned

@@ -73,3 +73,7 @@ one_less left others x is = omega (arith, ap length is)
 
 pub all_planned : (ps : List Push) (a b c : Push) (blobs : Blobs) → Holds (((ps ++ a ∷ []) ++ b ∷ []) ++ c ∷ []) blobs → pushes_of blobs.pushes ≡ without_repeats (ps ++ a ∷ b ∷ c ∷ [])
 all_planned ps a b c blobs h = h.planned ∙ ap without_repeats (append_assoc (ps ++ a ∷ []) (b ∷ []) (c ∷ []) ∙ append_assoc ps (a ∷ []) (b ∷ c ∷ []))
+
+-- two blobs
+pub both_planned : (a b : Push) (none one two : Blobs) → none.pushes ≡ [] → none.seen ≡ empty → ((before : List Push) → Holds before none → Holds (before ++ a ∷ []) one) → ((before : List Push) → Holds before one → Holds (before ++ b ∷ []) two) → pushes_of two.pushes ≡ without_repeats (a ∷ b ∷ [])
+both_planned a b none one two empties unseen first second = (second (a ∷ []) (first [] (holds_none none empties unseen))).planned

@@ -23,12 +23,12 @@ or_comm true false = refl
 or_comm false true = refl
 or_comm false false = refl
 
-among_more : (digest : List ℕ) (xs : List (List ℕ)) (x : List ℕ) → is_among digest (xs ++ x ∷ []) ≡ (is_among digest xs || bytes_eq digest x)
+pub among_more : (digest : List ℕ) (xs : List (List ℕ)) (x : List ℕ) → is_among digest (xs ++ x ∷ []) ≡ (is_among digest xs || bytes_eq digest x)
 among_more digest [] x = or_false (bytes_eq digest x)
 among_more digest (y ∷ xs) x = ap (λ b. bytes_eq digest y || b) (among_more digest xs x) ∙ sym (or_assoc (bytes_eq digest y) (is_among digest xs) (bytes_eq digest x))
 
 -- one that is among them already adds nothing
-among_still : (digest : List ℕ) (xs : List (List ℕ)) (x : List ℕ) → is_among x xs ≡ true → is_among digest (xs ++ x ∷ []) ≡ is_among digest xs
+pub among_still : (digest : List ℕ) (xs : List (List ℕ)) (x : List ℕ) → is_among x xs ≡ true → is_among digest (xs ++ x ∷ []) ≡ is_among digest xs
 among_still digest xs x there = among_more digest xs x ∙ by_test (bytes_eq digest x) refl where
   by_test : (b : Bool) → bytes_eq digest x ≡ b → (is_among digest xs || b) ≡ is_among digest xs
   by_test true same =
@@ -69,7 +69,7 @@ seen_none digest = ap is_some (get-empty by_bytes digest)
 pub seen_still : (s : FinMap by_bytes (Unit {0})) (ps : List Push) (p : Push) → is_among (push_digest p) (digests_of ps) ≡ true → Seen s ps → Seen s (ps ++ p ∷ [])
 seen_still s ps p there seen digest = seen digest ∙ sym (ap (is_among digest) (digests_more ps p) ∙ among_still digest (digests_of ps) (push_digest p) there)
 
-some_or : (b : Bool) (o : Option (Unit {0})) → is_some (cond b (Some tt) o) ≡ (is_some o || b)
+pub some_or : (b : Bool) (o : Option (Unit {0})) → is_some (cond b (Some tt) o) ≡ (is_some o || b)
 some_or true o = or_comm true (is_some o)
 some_or false o = sym (or_false (is_some o))
 

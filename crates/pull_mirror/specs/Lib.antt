@@ -1,3 +1,4 @@
+pub mod Absences
 pub mod Copies
 pub mod Errors
 pub mod Every
@@ -9,3 +10,7 @@ pub mod Signatures
 pub mod Stopped
 pub mod Targets
 pub mod Underway
+pub mod Asked
+pub mod DocumentCopies
+pub mod DocumentPushes
+pub mod DocumentPlans

@@ -68,32 +68,39 @@ without_repeats ps = not_before [] ps
 
 -- ---- documents
 
+-- a manifest by its digest
+abbrev pub manifest_push : (digest bytes : List ℕ) → Reference → Push
+manifest_push digest bytes target = Manifest (digest_reference target digest) digest bytes (document_type bytes)
+
 -- the manifest, if an index led to it
-abbrev pub entry_by : Option (List ℕ) → VerifiedImage → Reference → List Push
-entry_by None v target = []
-entry_by (Some list_digest) v target =
-    Manifest (digest_reference target v.manifest_digest) v.manifest_digest v.manifest_bytes
-    (document_type v.manifest_bytes) ∷ []
+abbrev pub entry_by : Option (List ℕ) → Push → List Push
+entry_by None push = []
+entry_by (Some list_digest) push = push ∷ []
 
 abbrev pub entry_of : VerifiedImage → Reference → List Push
-entry_of v target = entry_by v.list_digest v target
+entry_of v target = entry_by v.list_digest (manifest_push v.manifest_digest v.manifest_bytes target)
+
+-- a document under the tag
+abbrev pub tag_push : (digest bytes : List ℕ) → Reference → Push
+tag_push digest bytes target = Manifest target digest bytes (document_type bytes)
 
 -- the document that was signed, under the tag
 abbrev pub document_of : VerifiedImage → Reference → Push
-document_of v target = Manifest target v.digest v.first (document_type v.first)
+document_of v target = tag_push v.digest v.first target
 
--- where a signature's manifest of this digest is found: a payload's under the signature tag of the signed digest, a
--- bundle's under its own digest
-abbrev pub signature_place : LayerKind → VerifiedImage → Reference → List ℕ → Reference
-signature_place Payload v target digest = tag_reference target v.digest
-signature_place Bundle v target digest = digest_reference target digest
+-- where a signature's manifest is found: a payload's under the signature tag of the signed digest, a bundle's under its
+-- own digest
+abbrev pub signature_place : LayerKind → (signed own : List ℕ) → Reference → Reference
+signature_place Payload signed own target = tag_reference target signed
+signature_place Bundle signed own target = digest_reference target own
 
-abbrev pub signature_push : VerifiedImage → Reference → List ℕ → Push
-signature_push v target text = Manifest (signature_place v.signature.kind v target (digest_text Sha256 text))
+abbrev pub signature_push : LayerKind → (signed text : List ℕ) → Reference → Push
+signature_push kind signed text target = Manifest (signature_place kind signed (digest_text Sha256 text) target)
     (digest_text Sha256 text) text oci_manifest_type
 
 abbrev pub signature_of : VerifiedImage → Reference → Push
-signature_of v target = signature_push v target (signature_text v)
+signature_of v target =
+    signature_push v.signature.kind v.digest (signature_text v.signature v.digest v.first) target
 
 -- ---- all of them, in order
 

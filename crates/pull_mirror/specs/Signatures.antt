@@ -55,28 +55,28 @@ empty_config = typed_config (codes "application/vnd.oci.image.config.v1+json") (
 abbrev pub layer_manifest : SignatureLayer → OciImageManifest
 layer_manifest l = record (built (signature_layer l ∷ []) empty_config None) { media_type = Some oci_manifest_type }
 
--- the image's first document, which the signature is about
-abbrev pub subject_of : VerifiedImage → OciDescriptor
-subject_of v = record {
-  media_type = document_type v.first;
-  digest = v.digest;
-  size = pos (length v.first);
+-- the document that the signature is about
+abbrev pub subject_of : (digest first : List ℕ) → OciDescriptor
+subject_of digest first = record {
+  media_type = document_type first;
+  digest = digest;
+  size = pos (length first);
   urls = None;
   annotations = None;
   artifact_type = None;
 }
 
 -- a bundle is found by its subject, a payload by its tag
-abbrev pub manifest_by : LayerKind → VerifiedImage → OciImageManifest
-manifest_by Payload v = layer_manifest v.signature
-manifest_by Bundle v = record (layer_manifest v.signature) {
+abbrev pub manifest_by : LayerKind → SignatureLayer → OciDescriptor → OciImageManifest
+manifest_by Payload l subject = layer_manifest l
+manifest_by Bundle l subject = record (layer_manifest l) {
   artifact_type = Some (type_of_kind Bundle);
-  subject = Some (subject_of v);
+  subject = Some subject;
 }
 
-abbrev pub signature_manifest : VerifiedImage → OciImageManifest
-signature_manifest v = manifest_by v.signature.kind v
+abbrev pub signature_manifest : SignatureLayer → (digest first : List ℕ) → OciImageManifest
+signature_manifest l digest first = manifest_by l.kind l (subject_of digest first)
 
 -- its text
-abbrev pub signature_text : VerifiedImage → List ℕ
-signature_text v = manifest_text_of (Image (signature_manifest v))
+abbrev pub signature_text : SignatureLayer → (digest first : List ℕ) → List ℕ
+signature_text l digest first = manifest_text_of (Image (signature_manifest l digest first))

@@ -2,15 +2,21 @@
 //! exactly its bytes are pushed, with that signature.
 #![tactic(auto)]
 
+mod absences;
 mod copies;
+mod document_copies;
+mod documents;
 mod outcomes;
 mod planning;
+mod questions;
 mod refusals;
 mod sending;
 mod signatures;
 mod targets;
 
+pub use absences::DocumentsRefusal;
 pub use copies::mirror;
+pub use document_copies::{CopyTarget, push_documents};
 pub use refusals::{MirrorError, MirrorReport, PushRefusal, PushReport};
 pub use sending::push_image;
 pub use targets::is_target;

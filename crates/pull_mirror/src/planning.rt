@@ -3,7 +3,7 @@ ghost use Rattle.std.specs.Prelude.{◌≡◌, [], ◌∷◌, ◌++◌, IfOk, On
 ghost use Rattle.std.specs.Option.{option_copied};
 ghost use Rattle.pull_mirror.specs.Plans.{AddsBlob, Holds, IsPlan, push_of, pushes_of};
 ghost use Rattle.pull_mirror.specs.Pushes.{Push, blobs_of, layer_blobs, without_repeats, sha256_blob};
-ghost use Rattle.pull_mirror.specs.Pushes.{document_of, entry_of, signature_of, signature_place, signature_push};
+ghost use Rattle.pull_mirror.specs.Pushes.{entry_by, manifest_push, signature_place, signature_push, tag_push};
 ghost use Rattle.pull_mirror.specs.Signatures.{signature_text};
 
 use crate::signatures::document_type;
@@ -113,44 +113,80 @@ fn blob_pushes<'a>(alloc: Global, found: &'a VerifiedImage) -> Result<List<Plann
     Ok(blobs.pushes)
 }
 
-// Plans the manifest, if an index led to it.
-fn add_entry<'a>(
+/// Plans two blobs, each once.
+pub(crate) fn bytes_pushes<'a>(
     alloc: Global,
-    pushes: &mut List<Planned<'a>>,
-    target: &Reference,
-    found: &'a VerifiedImage,
-) -> Result<(), AllocError>
-    ensures { OnOk result (pushes_of pushes.new ≡ pushes_of pushes.old ++ entry_of found.now target.now) }
+    one: &'a [u8],
+    other: &'a [u8],
+) -> Result<List<Planned<'a>>, AllocError>
+    ensures { IfOk result (λ pushes. pushes_of pushes
+        ≡ without_repeats (sha256_blob one.now ∷ sha256_blob other.now ∷ [])) }
 {
-    if found.list_digest.is_none() {
-        return Ok(());
-    }
-    let content_type = document_type(alloc, &found.manifest_bytes)?;
-    let reference = digest_reference(alloc, target, found.manifest_digest.as_str())?;
-    let digest = found.manifest_digest.copy(alloc)?;
-    pushes.push(Planned::Manifest {
-        reference,
-        digest,
-        bytes: found.manifest_bytes.as_slice(),
-        content_type,
-    })?;
-    Ok(())
+    let mut blobs = Blobs {
+        pushes: List::new(alloc),
+        seen: TextSet::new(alloc),
+    };
+    add_bytes(alloc, &mut blobs, one)?;
+    add_bytes(alloc, &mut blobs, other)?;
+    Ok(blobs.pushes)
 }
 
-fn document_push<'a>(
+/// Plans a manifest by its digest.
+pub(crate) fn manifest_push<'a>(
     alloc: Global,
     target: &Reference,
-    found: &'a VerifiedImage,
+    digest: &Text,
+    bytes: &'a Blob,
 ) -> Result<Planned<'a>, AllocError>
-    ensures { IfOk result (λ push. push_of push ≡ document_of found.now target.now) }
+    ensures { IfOk result (λ push. push_of push ≡ manifest_push digest.now bytes.now target.now) }
 {
-    let content_type = document_type(alloc, &found.first)?;
-    let reference = target.copy(alloc)?;
-    let digest = found.digest.copy(alloc)?;
+    let content_type = document_type(alloc, bytes)?;
+    let reference = digest_reference(alloc, target, digest.as_str())?;
+    let digest = digest.copy(alloc)?;
     Ok(Planned::Manifest {
         reference,
         digest,
-        bytes: found.first.as_slice(),
+        bytes: bytes.as_slice(),
+        content_type,
+    })
+}
+
+/// Plans the manifest of this digest, if an index led to it.
+pub(crate) fn add_entry<'a>(
+    alloc: Global,
+    pushes: &mut List<Planned<'a>>,
+    target: &Reference,
+    list_digest: &Option<Text>,
+    digest: &Text,
+    bytes: &'a Blob,
+) -> Result<(), AllocError>
+    ensures { OnOk result (pushes_of pushes.new
+        ≡ pushes_of pushes.old ++ entry_by list_digest.now (manifest_push digest.now bytes.now target.now)) }
+{
+    if list_digest.is_none() {
+        return Ok(());
+    }
+    let push = manifest_push(alloc, target, digest, bytes)?;
+    pushes.push(push)?;
+    Ok(())
+}
+
+/// Plans a document under the target's tag.
+pub(crate) fn tag_push<'a>(
+    alloc: Global,
+    target: &Reference,
+    digest: &Text,
+    bytes: &'a Blob,
+) -> Result<Planned<'a>, AllocError>
+    ensures { IfOk result (λ push. push_of push ≡ tag_push digest.now bytes.now target.now) }
+{
+    let content_type = document_type(alloc, bytes)?;
+    let reference = target.copy(alloc)?;
+    let digest = digest.copy(alloc)?;
+    Ok(Planned::Manifest {
+        reference,
+        digest,
+        bytes: bytes.as_slice(),
         content_type,
     })
 }
@@ -158,28 +194,30 @@ fn document_push<'a>(
 fn signature_place(
     alloc: Global,
     target: &Reference,
-    found: &VerifiedImage,
-    digest: &Text,
+    kind: LayerKind,
+    signed: &Text,
+    own: &Text,
 ) -> Result<Reference, AllocError>
-    ensures { IfOk result (λ reference. reference
-        ≡ signature_place found.now.signature.kind found.now target.now digest.now) }
+    ensures { IfOk result (λ reference. reference ≡ signature_place kind signed.now own.now target.now) }
 {
-    match found.signature.kind {
-        LayerKind::Payload => tag_reference(alloc, target, found.digest.as_str()),
-        LayerKind::Bundle => digest_reference(alloc, target, digest.as_str()),
+    match kind {
+        LayerKind::Payload => tag_reference(alloc, target, signed.as_str()),
+        LayerKind::Bundle => digest_reference(alloc, target, own.as_str()),
     }
 }
 
-fn signature_push<'a>(
+/// Plans the manifest, of this text, of a signature of the document of this digest.
+pub(crate) fn signature_push<'a>(
     alloc: Global,
     target: &Reference,
-    found: &VerifiedImage,
+    kind: LayerKind,
+    signed: &Text,
     text: &'a [u8],
 ) -> Result<Planned<'a>, AllocError>
-    ensures { IfOk result (λ push. push_of push ≡ signature_push found.now target.now text.now) }
+    ensures { IfOk result (λ push. push_of push ≡ signature_push kind signed.now text.now target.now) }
 {
     let digest = sha256_digest(alloc, text)?;
-    let reference = signature_place(alloc, target, found, &digest)?;
+    let reference = signature_place(alloc, target, kind, signed, &digest)?;
     let content_type = Text::new(alloc, OCI_IMAGE_MEDIA_TYPE)?;
     Ok(Planned::Manifest {
         reference,
@@ -196,12 +234,23 @@ pub(crate) fn plan_for<'a>(
     found: &'a VerifiedImage,
     text: &'a Blob,
 ) -> Result<Plan<'a>, AllocError>
-    ensures { text.now ≡ signature_text found.now → IfOk result (IsPlan found.now target.now) }
+    ensures { text.now ≡ signature_text found.now.signature found.now.digest found.now.first
+        → IfOk result (IsPlan found.now target.now) }
 {
     let mut first = blob_pushes(alloc, found)?;
-    add_entry(alloc, &mut first, target, found)?;
-    let document = document_push(alloc, target, found)?;
-    let signature = signature_push(alloc, target, found, text.as_slice())?;
+    let led = &found.list_digest;
+    let manifest = &found.manifest_bytes;
+    add_entry(
+        alloc,
+        &mut first,
+        target,
+        led,
+        &found.manifest_digest,
+        manifest,
+    )?;
+    let document = tag_push(alloc, target, &found.digest, &found.first)?;
+    let kind = found.signature.kind;
+    let signature = signature_push(alloc, target, kind, &found.digest, text.as_slice())?;
     Ok(Plan {
         first,
         document,

@@ -126,7 +126,7 @@ impl fmt::Debug for MirrorError {
     }
 }
 
-fn word(out: &mut Blob, text: &str) -> Result<(), AllocError>
+pub(crate) fn word(out: &mut Blob, text: &str) -> Result<(), AllocError>
     ensures { OnOk result (out.new ≡ out.old ++ text.now) }
 {
     out.append(text.as_bytes())
@@ -148,7 +148,7 @@ fn print_pull(alloc: Global, out: &mut Blob, refusal: &PullRefusal) -> Result<()
     Ok(())
 }
 
-fn print_push(
+pub(crate) fn print_push(
     alloc: Global,
     out: &mut Blob,
     digest: &Text,

@@ -71,7 +71,7 @@ fn digest_of<'p>(push: &'p Planned<'_>) -> &'p Text
 }
 
 // Sends one push, and adds its digest to those of the pushes before it.
-fn send_next<B: Transport>(
+pub(crate) fn send_next<B: Transport>(
     alloc: Global,
     client: &mut Client,
     transport: &mut B,
@@ -98,7 +98,7 @@ fn send_next<B: Transport>(
 }
 
 // Sends each push, in order.
-fn send_each<B: Transport>(
+pub(crate) fn send_each<B: Transport>(
     alloc: Global,
     client: &mut Client,
     transport: &mut B,
@@ -236,7 +236,7 @@ pub fn push_image<B: Transport>(
 {
     let auth = auth.to_registry(alloc)?;
     let target = target.reference();
-    let text = signature_text(alloc, found)?;
+    let text = signature_text(alloc, &found.signature, &found.digest, &found.first)?;
     let plan = plan_for(alloc, target, found, &text)?;
     send_stored(alloc, client, transport, moment, target, &auth, &plan)
 }

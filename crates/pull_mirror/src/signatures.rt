@@ -4,7 +4,7 @@ ghost use Rattle.pull_mirror.specs.Signatures.{document_type, type_of_kind, sign
 ghost use Rattle.pull_mirror.specs.Signatures.{layer_manifest, subject_of, signature_manifest, signature_text};
 ghost use Rattle.cosign_parts.specs.declared.layer.LayerKind.TheVariants.{Bundle};
 
-use cosign_chain::{VerifiedImage, document_in};
+use cosign_chain::document_in;
 use cosign_parts::{BUNDLE_TYPE, LayerKind, SIMPLE_SIGNING_TYPE, SignatureLayer};
 use json_values::{Blob, Copied, List, Text};
 use oci_descriptors::{OCI_IMAGE_MEDIA_TYPE, OciDescriptor};
@@ -64,50 +64,65 @@ fn layer_manifest(alloc: Global, layer: &SignatureLayer) -> Result<OciImageManif
     Ok(manifest)
 }
 
-fn subject_of(alloc: Global, found: &VerifiedImage) -> Result<OciDescriptor, AllocError>
-    ensures { IfOk result (λ subject. subject ≡ subject_of found.now) }
+fn subject_of(alloc: Global, digest: &Text, first: &Blob) -> Result<OciDescriptor, AllocError>
+    ensures { IfOk result (λ subject. subject ≡ subject_of digest.now first.now) }
 {
-    let media_type = document_type(alloc, &found.first)?;
-    let digest = found.digest.copy(alloc)?;
+    let media_type = document_type(alloc, first)?;
+    let digest = digest.copy(alloc)?;
     Ok(OciDescriptor {
         media_type,
         digest,
-        size: found.first.as_slice().len() as i64,
+        size: first.as_slice().len() as i64,
         urls: None,
         annotations: None,
         artifact_type: None,
     })
 }
 
-fn bundle_manifest(alloc: Global, found: &VerifiedImage) -> Result<OciImageManifest, AllocError>
-    ensures { IfOk result (λ manifest. manifest ≡ record (layer_manifest found.now.signature) {
+fn bundle_manifest(
+    alloc: Global,
+    layer: &SignatureLayer,
+    digest: &Text,
+    first: &Blob,
+) -> Result<OciImageManifest, AllocError>
+    ensures { IfOk result (λ manifest. manifest ≡ record (layer_manifest layer.now) {
       artifact_type = Some (type_of_kind Bundle);
-      subject = Some (subject_of found.now);
+      subject = Some (subject_of digest.now first.now);
     }) }
 {
     let artifact_type = Text::new(alloc, BUNDLE_TYPE)?;
-    let subject = subject_of(alloc, found)?;
-    let mut manifest = layer_manifest(alloc, &found.signature)?;
+    let subject = subject_of(alloc, digest, first)?;
+    let mut manifest = layer_manifest(alloc, layer)?;
     manifest.artifact_type = Some(artifact_type);
     manifest.subject = Some(subject);
     Ok(manifest)
 }
 
-fn signature_manifest(alloc: Global, found: &VerifiedImage) -> Result<OciImageManifest, AllocError>
-    ensures { IfOk result (λ manifest. manifest ≡ signature_manifest found.now) }
+fn signature_manifest(
+    alloc: Global,
+    layer: &SignatureLayer,
+    digest: &Text,
+    first: &Blob,
+) -> Result<OciImageManifest, AllocError>
+    ensures { IfOk result (λ manifest. manifest ≡ signature_manifest layer.now digest.now first.now) }
 {
-    match found.signature.kind {
-        LayerKind::Payload => layer_manifest(alloc, &found.signature),
-        LayerKind::Bundle => bundle_manifest(alloc, found),
+    match layer.kind {
+        LayerKind::Payload => layer_manifest(alloc, layer),
+        LayerKind::Bundle => bundle_manifest(alloc, layer, digest, first),
     }
 }
 
-/// Returns the text of the manifest that is pushed for the image's signature: one layer, with the bytes and annotations
-/// that were pulled. A bundle's names the image's first document as its subject.
-pub(crate) fn signature_text(alloc: Global, found: &VerifiedImage) -> Result<Blob, AllocError>
-    ensures { IfOk result (λ text. text ≡ signature_text found.now) }
+/// Returns the text of the manifest that is pushed for the signature of the document of this digest: one layer, with the
+/// bytes and annotations that were pulled. A bundle's names the document as its subject.
+pub(crate) fn signature_text(
+    alloc: Global,
+    layer: &SignatureLayer,
+    digest: &Text,
+    first: &Blob,
+) -> Result<Blob, AllocError>
+    ensures { IfOk result (λ text. text ≡ signature_text layer.now digest.now first.now) }
 {
-    let manifest = signature_manifest(alloc, found)?;
+    let manifest = signature_manifest(alloc, layer, digest, first)?;
     let document = OciManifest::Image(manifest);
     let text = manifest_text(alloc, &document)?;
     Ok(text)
