@@ -72,14 +72,21 @@ judges_same : (P Q : LockEntry → Type 0) → ((e : LockEntry) → P e → Q e)
 judges_same P Q to from entries Holds h = All-weaker P Q to entries h
 judges_same P Q to from entries (Fails image) (before, after, e, split, all, not_held, is) = (before, after, e, split, All-weaker P Q to before all, (λ q. not_held (from e q)), is)
 
+-- under a written policy
+pub judged_by : {V : Type 0} {H : V → Type 0} (own : CustomVerdict V H) (keys : List (List ℕ)) (written : List WrittenConstraint) (t : Trust) (promise : Option ResolverPromise) (constraints : List (Constraint V H)) (entries : List LockEntry)
+    (verdict : LockVerdict) → constraints ≡ constraints_by written
+    → Judges (Locked (policy_context (record { keys = keys; constraints = constraints }) own t) promise) entries verdict
+    → Judges (Locked (policy_context (written_policy {V = ⊥} {H = λ v. ⊥} keys written) (λ box layer. false) t) promise) entries verdict
+judged_by {V} {H} own keys written t promise constraints entries verdict is h =
+    let other : CustomVerdict ⊥ (λ v. ⊥) = λ box layer. false in
+    judges_same (Locked (policy_context (written_policy {V = V} {H = H} keys written) own t) promise) (Locked (policy_context (written_policy {V = ⊥} {H = λ v. ⊥} keys written) other t) promise)
+    (λ e. locked_same V ⊥ H (λ v. ⊥) own other keys written t promise e)
+    (λ e. locked_same ⊥ V (λ v. ⊥) H other own keys written t promise e)
+    entries verdict
+    (subst (λ (cs : List (Constraint V H)). Judges (Locked (policy_context (record { keys = keys; constraints = cs }) own t) promise) entries verdict) is h)
+
 -- under the policy of the case
 pub judged : {V : Type 0} {H : V → Type 0} (own : CustomVerdict V H) (case : Case) (constraints : List (Constraint V H)) (entries : List LockEntry) (verdict : LockVerdict) → constraints ≡ constraints_by case.constraints
     → Judges (Locked (policy_context (record { keys = case.keys; constraints = constraints }) own (trust_of case)) case.platform) entries verdict
     → Judges (Locked (meaning_of case) case.platform) entries verdict
-judged {V} {H} own case constraints entries verdict is h =
-    let other : CustomVerdict ⊥ (λ v. ⊥) = λ box layer. false in
-    judges_same (Locked (policy_context (written_policy {V = V} {H = H} case.keys case.constraints) own (trust_of case)) case.platform) (Locked (meaning_of case) case.platform)
-    (λ e. locked_same V ⊥ H (λ v. ⊥) own other case.keys case.constraints (trust_of case) case.platform e)
-    (λ e. locked_same ⊥ V (λ v. ⊥) H other own case.keys case.constraints (trust_of case) case.platform e)
-    entries verdict
-    (subst (λ (cs : List (Constraint V H)). Judges (Locked (policy_context (record { keys = case.keys; constraints = cs }) own (trust_of case)) case.platform) entries verdict) is h)
+judged own case constraints entries verdict is h = judged_by own case.keys case.constraints (trust_of case) case.platform constraints entries verdict is h
