@@ -1,0 +1,9 @@
+pub mod Delivery
+pub mod DiscardState
+pub mod Discarded
+pub mod Ends
+pub mod Heads
+pub mod LiveBlobs
+pub mod Opening
+pub mod Pulled
+pub mod Settings
