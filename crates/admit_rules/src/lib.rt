@@ -1,0 +1,9 @@
+//! Rules by registry and repository: which rule covers an image.
+#![tactic(auto)]
+
+mod place;
+mod rule;
+mod rules;
+
+pub use rule::Rule;
+pub use rules::rule_for;

@@ -1,0 +1,4 @@
+pub mod Asked
+pub mod Pins
+pub mod Places
+pub mod Verdicts
