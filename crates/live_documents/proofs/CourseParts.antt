@@ -12,67 +12,68 @@ use Rattle.cosign_rows.specs.declared.refusal.PullRefusal.{PullRefusal}
 use Rattle.live_host.specs.Questions.{WereAsked}
 use Rattle.live_host.specs.Wire.{Wire}
 use Rattle.live_host.specs.declared.answers.Answers.{Answers}
+use Rattle.cosign_rows.specs.Refusal.{is_memory}
+use Rattle.live_host.specs.HostErrors.{HostCause}
+use Rattle.live_host.specs.declared.streams.HostError.{HostError}
+use Rattle.live_host.specs.declared.streams.HostError.TheVariants as host
 use Rattle.live_pull.specs.Live.{Ends}
 use Rattle.live_pull.specs.Parts.{DeliversBy}
+use Rattle.live_pull.specs.Status.{status_of}
 use Rattle.live_pull.specs.Terms.{PulledBy}
 use Rattle.live_pull.specs.declared.pulls.Terms.{Terms}
 use Rattle.live_pull.specs.declared.status.Status.{Status}
 use Rattle.live_pull.specs.declared.status.Status.TheVariants as status
-use Rattle.live_pull.proofs.PartsTogether.{ends_as}
-use Rattle.live_documents.specs.Course.{AskedAndDecided, Course, DocumentsTold, Finished}
+use Rattle.live_documents.specs.Course.{AskedAndDecidedBy, CourseBy, FinishedBy, NothingTold}
+use Rattle.live_documents.specs.Decided.{Decides}
 use Rattle.live_documents.specs.Rows.{collect_for, decide_for}
 
--- a decision, and what was sent for it
-pub finished_ends : (decide : Whole VerifiedDocuments) (k l : Kept) (old at new : Wire) (r : Result VerifiedDocuments PullRefusal) (s : Status)
-    → PulledBy decide old at k l r → DeliversBy DocumentsTold r s at new → Ends (Finished decide k old new) s new
-finished_ends decide k l old at new (Ok d) status.Pulled decision given = (d, record { decided_at = at; left = l; decision = decision; given = given })
-finished_ends decide k l old at new (Err e) status.Pulled decision given = absurd given
-finished_ends decide k l old at new (Ok d) status.Refused decision given = absurd given
-finished_ends decide k l old at new (Err e) status.Refused decision given = (e, given.0, record { decided_at = at; left = l; decision = decision given.0; given = given.1 })
-finished_ends decide k l old at new (Ok d) status.UnreadableSettings decision given = absurd given
-finished_ends decide k l old at new (Err e) status.UnreadableSettings decision given = absurd given
-finished_ends decide k l old at new (Ok d) status.HostBroken decision given = given
-finished_ends decide k l old at new (Err e) status.HostBroken decision given = given
-finished_ends decide k l old at new (Ok d) status.SinkFault decision given = given
-finished_ends decide k l old at new (Err e) status.SinkFault decision given = given
-finished_ends decide k l old at new (Ok d) status.WantOfMemory decision given = tt
-finished_ends decide k l old at new (Err e) status.WantOfMemory decision given = tt
+-- a consequence of each result is a consequence of what was decided
+pub decides_as : {A : Type 0} {P Q : Result A PullRefusal → Type 0} (o : Result (Result A PullRefusal) Status) (new : Wire) → ((r : Result A PullRefusal) → P r → Q r) → Decides P o new → Decides Q o new
+decides_as (Ok (Ok a)) new f h = f (Ok a) h
+decides_as (Ok (Err e)) new f h = λ kept. f (Err e) (h kept)
+decides_as (Err s) new f h = h
+
+-- the host's stream or the output failed, or memory ran out
+pub host_undecided : {A : Type 0} (P : Result A PullRefusal → Type 0) (e : HostError) (new : Wire) → HostCause e new → Decides P (Err (status_of e)) new
+host_undecided P host.Broken new cause = cause
+host_undecided P host.Unwritten new cause = cause
+host_undecided P host.WantOfMemory new cause = tt
+
+-- a decision
+pub finished_decides : (decide : Whole VerifiedDocuments) (k l : Kept) (old at : Wire) (r : Result VerifiedDocuments PullRefusal) → PulledBy decide old at k l r → Decides (FinishedBy NothingTold decide k old at) (Ok r) at
+finished_decides decide k l old at (Ok d) decision = record { decided_at = at; left = l; decision = decision; given = refl }
+finished_decides decide k l old at (Err e) decision = λ kept. record { decided_at = at; left = l; decision = decision kept; given = refl }
 
 module _ {V : Type 0} {H : V → Type 0} (own : CustomVerdict V H) (terms : Terms V H) where
   -- by these terms
-  pub finished_for : (logs : FinMap by_bytes (List ℕ)) (s : Settings) (answers : Answers) (found : TrustedLayers) (k l : Kept) (old at new : Wire) (r : Result VerifiedDocuments PullRefusal) (e : Status)
-      → PulledBy (decide_for own terms logs s answers found) old at k l r → DeliversBy DocumentsTold r e at new → Ends (Finished (decide_for own terms logs s answers found) k old new) e new
-  finished_for logs s answers found k l old at new r e decision given = finished_ends (decide_for own terms logs s answers found) k l old at new r e decision given
+  pub finished_for : (logs : FinMap by_bytes (List ℕ)) (s : Settings) (answers : Answers) (found : TrustedLayers) (k l : Kept) (old at : Wire) (r : Result VerifiedDocuments PullRefusal)
+      → PulledBy (decide_for own terms logs s answers found) old at k l r → Decides (FinishedBy NothingTold (decide_for own terms logs s answers found) k old at) (Ok r) at
+  finished_for logs s answers found k l old at r decision = finished_decides (decide_for own terms logs s answers found) k l old at r decision
 
   -- questions, and the decision under the answers
-  pub asked_ends : (logs : FinMap by_bytes (List ℕ)) (s : Settings) (answers : Answers) (found : TrustedLayers) (k : Kept) (old at new : Wire) (e : Status)
-      → WereAsked answers.list old at → Ends (Finished (decide_for own terms logs s answers found) k at new) e new → Ends (AskedAndDecided (decide_for own terms logs s) k found old new) e new
-  asked_ends logs s answers found k old at new e questions ends =
-      ends_as {P = Finished (decide_for own terms logs s answers found) k at new} {Q = AskedAndDecided (decide_for own terms logs s) k found old new} e new
-      (λ r h. record { asked_at = at; answers = answers; questions = questions; finished = h }) ends
+  pub asked_decides : (logs : FinMap by_bytes (List ℕ)) (s : Settings) (answers : Answers) (found : TrustedLayers) (k : Kept) (old at new : Wire) (o : Result (Result VerifiedDocuments PullRefusal) Status)
+      → WereAsked answers.list old at → Decides (FinishedBy NothingTold (decide_for own terms logs s answers found) k at new) o new → Decides (AskedAndDecidedBy NothingTold (decide_for own terms logs s) k found old new) o new
+  asked_decides logs s answers found k old at new o questions decides =
+      decides_as {P = FinishedBy NothingTold (decide_for own terms logs s answers found) k at new} {Q = AskedAndDecidedBy NothingTold (decide_for own terms logs s) k found old new} o new
+      (λ r h. record { asked_at = at; answers = answers; questions = questions; finished = h }) decides
 
   -- a search that found something, and what follows it, by a client that knows the same logs and has the same settings
-  pub course_found : (logs same_logs : FinMap by_bytes (List ℕ)) (s same : Settings) (k kept : Kept) (old at new : Wire) (found : TrustedLayers) (e : Status)
+  pub course_found : (logs same_logs : FinMap by_bytes (List ℕ)) (s same : Settings) (k kept : Kept) (old at new : Wire) (found : TrustedLayers) (o : Result (Result VerifiedDocuments PullRefusal) Status)
       → PulledBy (collect_for own terms logs s) old at k kept (Ok found) → same_logs ≡ logs → same ≡ s
-      → Ends (AskedAndDecided (decide_for own terms same_logs same) kept found at new) e new
-      → Ends (Course (collect_for own terms logs s) (decide_for own terms logs s) k old new) e new
-  course_found logs same_logs s same k kept old at new found e search is_logs is_settings ends =
-      ends_as {P = AskedAndDecided (decide_for own terms same_logs same) kept found at new} {Q = Course (collect_for own terms logs s) (decide_for own terms logs s) k old new} e new (λ r h. record {
+      → Decides (AskedAndDecidedBy NothingTold (decide_for own terms same_logs same) kept found at new) o new
+      → Decides (CourseBy NothingTold (collect_for own terms logs s) (decide_for own terms logs s) k old new) o new
+  course_found logs same_logs s same k kept old at new found o search is_logs is_settings decides =
+      decides_as {P = AskedAndDecidedBy NothingTold (decide_for own terms same_logs same) kept found at new} {Q = CourseBy NothingTold (collect_for own terms logs s) (decide_for own terms logs s) k old new} o new (λ r h. record {
         searched_at = at;
         kept = kept;
         found = Ok found;
         search = search;
-        after = subst (λ (l : FinMap by_bytes (List ℕ)). AskedAndDecided (decide_for own terms l s) kept found at new r) is_logs
-            (subst (λ (x : Settings). AskedAndDecided (decide_for own terms same_logs x) kept found at new r) is_settings h);
-      }) ends
+        after = subst (λ (l : FinMap by_bytes (List ℕ)). AskedAndDecidedBy NothingTold (decide_for own terms l s) kept found at new r) is_logs
+            (subst (λ (x : Settings). AskedAndDecidedBy NothingTold (decide_for own terms same_logs x) kept found at new r) is_settings h);
+      }) decides
 
   -- a search that was refused
-  pub course_refused : (logs : FinMap by_bytes (List ℕ)) (s : Settings) (k kept : Kept) (old at new : Wire) (x : PullRefusal) (e : Status)
-      → PulledBy (collect_for own terms logs s) old at k kept (Err x) → DeliversBy DocumentsTold (Err x) e at new
-      → Ends (Course (collect_for own terms logs s) (decide_for own terms logs s) k old new) e new
-  course_refused logs s k kept old at new x status.Pulled search given = absurd given
-  course_refused logs s k kept old at new x status.Refused search given = (x, given.0, record { searched_at = at; kept = kept; found = Err x; search = search given.0; after = (refl, given.1) })
-  course_refused logs s k kept old at new x status.UnreadableSettings search given = absurd given
-  course_refused logs s k kept old at new x status.HostBroken search given = given
-  course_refused logs s k kept old at new x status.SinkFault search given = given
-  course_refused logs s k kept old at new x status.WantOfMemory search given = tt
+  pub course_refused : (logs : FinMap by_bytes (List ℕ)) (s : Settings) (k kept : Kept) (old at : Wire) (x : PullRefusal)
+      → PulledBy (collect_for own terms logs s) old at k kept (Err x)
+      → Decides (CourseBy NothingTold (collect_for own terms logs s) (decide_for own terms logs s) k old at) (Ok (Err x)) at
+  course_refused logs s k kept old at x search = λ whole. record { searched_at = at; kept = kept; found = Err x; search = search whole; after = (refl, refl) }

@@ -35,15 +35,16 @@ use Rattle.live_host.specs.Wire.{Wire}
 use Rattle.live_host.specs.declared.answers.Answers.{Answers}
 use Rattle.live_pull.specs.Justified.{Confined}
 use Rattle.live_pull.specs.Live.{Ends}
-use Rattle.live_pull.specs.Parts.{Prepares}
+use Rattle.live_pull.specs.Parts.{DeliversBy, Prepares}
 use Rattle.live_pull.specs.Pulls.{Transfer, context_of, meaning_of, trust_of}
 use Rattle.live_pull.specs.declared.live.Prepared.{Prepared}
 use Rattle.live_pull.specs.declared.settings.LiveSettings.{LiveSettings}
 use Rattle.live_pull.specs.declared.status.Status.{Status}
 use Rattle.live_pull.specs.declared.status.Status.TheVariants as status
 use Rattle.live_pull.proofs.Policies.{policy_is}
-use Rattle.live_documents.specs.Course.{AfterSearch, Course}
-use Rattle.live_documents.specs.Justified.{AfterJustified, DecisionJustified, FoundJustified, Justified}
+use Rattle.live_documents.specs.Course.{AfterSearchBy, CourseBy, DocumentsTold, Giving, NothingTold}
+use Rattle.live_documents.specs.Decided.{DecidedDocuments, Decides, EndsEarly}
+use Rattle.live_documents.specs.Justified.{AfterJustified, DecisionJustified, FoundJustified, JustifiedBy}
 use Rattle.live_documents.specs.LiveDocuments.{LiveDocuments}
 use Rattle.live_documents.specs.Rows.{collect_for, collect_row, decide_for, decide_row, everyone_of}
 use Rattle.live_documents.proofs.RowsSame.{collected_same, decided_same}
@@ -67,7 +68,7 @@ decide_is {V} {H} own settings p answers found (reads, auth, accepted, moment, k
 
 -- ---- justified
 
-module _ (settings : LiveSettings) (image : Reference) (direct : mirror_of image ≡ None) where
+module _ (Gives : Giving) (settings : LiveSettings) (image : Reference) (direct : mirror_of image ≡ None) where
   search_justified : (k l : Kept) (old new : Wire) (r : Result TrustedLayers PullRefusal) → IsKept r → Transfer (collect_row settings image) old new k l r → FoundJustified (everyone_of settings) (context_of settings) image settings.auth k l r old new
   search_justified k l old new (Ok found) kept t =
       shown_by (collect_row settings image) (λ c. AnsweredOrFresh k (context_of settings) image settings.auth c found.digest) old new k l (Ok found) t
@@ -100,7 +101,7 @@ module _ (settings : LiveSettings) (image : Reference) (direct : mirror_of image
       shown_by (decide_row settings image answers found) (λ c. Within (pulling k.0 (context_of settings) image (Some settings.auth)) (context_of settings).settings l.0 c) old new k l r t
       (decided_confined (meaning_of settings answers) (context_of settings) image settings.auth found r direct (meets (decide_row settings image answers found) old new k l r kept t))
 
-  after_justified : (k : Kept) (found : Result TrustedLayers PullRefusal) (old new : Wire) (r : Result VerifiedDocuments PullRefusal) → IsKept r → (after : AfterSearch (decide_row settings image) k found old new r) → AfterJustified settings image k found old new r after
+  after_justified : (k : Kept) (found : Result TrustedLayers PullRefusal) (old new : Wire) (r : Result VerifiedDocuments PullRefusal) → IsKept r → (after : AfterSearchBy Gives (decide_row settings image) k found old new r) → AfterJustified Gives settings image k found old new r after
   after_justified k (Ok found) old new r kept after = (
     decision_justified after.answers found k after.finished.left after.asked_at after.finished.decided_at r kept after.finished.decision,
     decision_confined after.answers found k after.finished.left after.asked_at after.finished.decided_at r kept after.finished.decision,
@@ -108,11 +109,11 @@ module _ (settings : LiveSettings) (image : Reference) (direct : mirror_of image
   after_justified k (Err e) old new r kept after = tt
 
   -- the search did not run out of memory, since its error is the result
-  found_kept : (k : Kept) (found : Result TrustedLayers PullRefusal) (old new : Wire) (r : Result VerifiedDocuments PullRefusal) → IsKept r → AfterSearch (decide_row settings image) k found old new r → IsKept found
+  found_kept : (k : Kept) (found : Result TrustedLayers PullRefusal) (old new : Wire) (r : Result VerifiedDocuments PullRefusal) → IsKept r → AfterSearchBy Gives (decide_row settings image) k found old new r → IsKept found
   found_kept k (Ok found) old new r kept after = tt
   found_kept k (Err e) old new r kept after = rw after.0 at kept
 
-  pub justified : (k : Kept) (old new : Wire) (r : Result VerifiedDocuments PullRefusal) → IsKept r → (course : Course (collect_row settings image) (decide_row settings image) k old new r) → Justified settings image k old new r course
+  pub justified : (k : Kept) (old new : Wire) (r : Result VerifiedDocuments PullRefusal) → IsKept r → (course : CourseBy Gives (collect_row settings image) (decide_row settings image) k old new r) → JustifiedBy Gives settings image k old new r course
   justified k old new r kept course =
       let searched = found_kept course.kept course.found course.searched_at new r kept course.after in
       record {
@@ -124,7 +125,7 @@ module _ (settings : LiveSettings) (image : Reference) (direct : mirror_of image
 -- ---- by the settings
 
 after_as : (decide same : Answers → TrustedLayers → Whole VerifiedDocuments) (k : Kept) (found : Result TrustedLayers PullRefusal) (old new : Wire) (r : Result VerifiedDocuments PullRefusal) → ((answers : Answers) (layers : TrustedLayers) → decide answers layers ≡ same answers layers)
-    → AfterSearch decide k found old new r → AfterSearch same k found old new r
+    → AfterSearchBy NothingTold decide k found old new r → AfterSearchBy NothingTold same k found old new r
 after_as decide same k (Ok found) old new r is after = record {
   asked_at = after.asked_at;
   answers = after.answers;
@@ -139,7 +140,7 @@ after_as decide same k (Ok found) old new r is after = record {
 after_as decide same k (Err e) old new r is after = after
 
 course_as : (collect other : Whole TrustedLayers) (decide same : Answers → TrustedLayers → Whole VerifiedDocuments) (k : Kept) (old new : Wire) (r : Result VerifiedDocuments PullRefusal) → collect ≡ other → ((answers : Answers) (layers : TrustedLayers) → decide answers layers ≡ same answers layers)
-    → Course collect decide k old new r → Course other same k old new r
+    → CourseBy NothingTold collect decide k old new r → CourseBy NothingTold other same k old new r
 course_as collect other decide same k old new r searches decides course = record {
   searched_at = course.searched_at;
   kept = course.kept;
@@ -150,29 +151,90 @@ course_as collect other decide same k old new r searches decides course = record
 
 -- a course of a new client by these terms
 live : {V : Type 0} {H : V → Type 0} (own : CustomVerdict V H) (settings : LiveSettings) (p : Prepared V H) (old new : Wire) (r : Result VerifiedDocuments PullRefusal) → Prepares settings p → IsKept r
-    → Course (collect_for own p.terms p.client.rekor_pub_keys (client_state p.client).settings) (decide_for own p.terms p.client.rekor_pub_keys (client_state p.client).settings) (client_state p.client).kept old new r
-    → LiveDocuments settings r old new
+    → CourseBy NothingTold (collect_for own p.terms p.client.rekor_pub_keys (client_state p.client).settings) (decide_for own p.terms p.client.rekor_pub_keys (client_state p.client).settings) (client_state p.client).kept old new r
+    → DecidedDocuments settings r old new
 live own settings p old new r prepares kept course =
     let made = ap (λ (c : State). c.kept) prepares.6 in
     let same = course_as (collect_for own p.terms p.client.rekor_pub_keys (client_state p.client).settings) (collect_row settings (reference_in p.terms.image))
     (decide_for own p.terms p.client.rekor_pub_keys (client_state p.client).settings) (decide_row settings (reference_in p.terms.image)) (client_state p.client).kept old new r
     (collect_is own settings p prepares) (λ answers found. decide_is own settings p answers found prepares) course in
-    let here : Course (collect_row settings (reference_in p.terms.image)) (decide_row settings (reference_in p.terms.image)) (fresh true) old new r =
-    subst (λ (k : Kept). Course (collect_row settings (reference_in p.terms.image)) (decide_row settings (reference_in p.terms.image)) k old new r) made same in
+    let here : CourseBy NothingTold (collect_row settings (reference_in p.terms.image)) (decide_row settings (reference_in p.terms.image)) (fresh true) old new r =
+    subst (λ (k : Kept). CourseBy NothingTold (collect_row settings (reference_in p.terms.image)) (decide_row settings (reference_in p.terms.image)) k old new r) made same in
     record {
       image = reference_in p.terms.image;
       reads = prepares.0;
       course = here;
-      justified = justified settings (reference_in p.terms.image) p.terms.image.direct (fresh true) old new r kept here;
+      justified = justified NothingTold settings (reference_in p.terms.image) p.terms.image.direct (fresh true) old new r kept here;
     }
 
--- how all of it ends, by the settings
-pub live_ends : {V : Type 0} {H : V → Type 0} (own : CustomVerdict V H) (settings : LiveSettings) (p : Prepared V H) (old new : Wire) (e : Status) → Prepares settings p
-    → Ends (Course (collect_for own p.terms p.client.rekor_pub_keys (client_state p.client).settings) (decide_for own p.terms p.client.rekor_pub_keys (client_state p.client).settings) (client_state p.client).kept old new) e new
-    → Ends (λ r. LiveDocuments settings r old new) e new
-live_ends own settings p old new status.Pulled prepares h = (h.0, live own settings p old new (Ok h.0) prepares tt h.1)
-live_ends own settings p old new status.Refused prepares h = (h.0, h.1, live own settings p old new (Err h.0) prepares h.1 h.2)
-live_ends own settings p old new status.UnreadableSettings prepares h = absurd h
-live_ends own settings p old new status.HostBroken prepares h = h
-live_ends own settings p old new status.SinkFault prepares h = h
-live_ends own settings p old new status.WantOfMemory prepares h = tt
+-- what was decided, by the settings
+pub live_decides : {V : Type 0} {H : V → Type 0} (own : CustomVerdict V H) (settings : LiveSettings) (p : Prepared V H) (old new : Wire) (o : Result (Result VerifiedDocuments PullRefusal) Status) → Prepares settings p
+    → Decides (CourseBy NothingTold (collect_for own p.terms p.client.rekor_pub_keys (client_state p.client).settings) (decide_for own p.terms p.client.rekor_pub_keys (client_state p.client).settings) (client_state p.client).kept old new) o new
+    → Decides (λ r. DecidedDocuments settings r old new) o new
+live_decides own settings p old new (Ok (Ok d)) prepares h = live own settings p old new (Ok d) prepares tt h
+live_decides own settings p old new (Ok (Err e)) prepares h = λ kept. live own settings p old new (Err e) prepares kept (h kept)
+live_decides own settings p old new (Err s) prepares h = h
+
+-- ---- what is sent afterwards
+
+after_given : (Gives : Giving) (decide : Answers → TrustedLayers → Whole VerifiedDocuments) (k : Kept) (found : Result TrustedLayers PullRefusal) (old at new : Wire) (r : Result VerifiedDocuments PullRefusal) → Gives r at new → AfterSearchBy NothingTold decide k found old at r → AfterSearchBy Gives decide k found old new r
+after_given Gives decide k (Ok found) old at new r given after = record {
+  asked_at = after.asked_at;
+  answers = after.answers;
+  questions = after.questions;
+  finished = record {
+    decided_at = after.finished.decided_at;
+    left = after.finished.left;
+    decision = after.finished.decision;
+    given = subst (λ (w : Wire). Gives r w new) (sym after.finished.given) given;
+  };
+}
+after_given Gives decide k (Err e) old at new r given after = (after.0, subst (λ (w : Wire). Gives (Err e) w new) (sym after.1) (subst (λ (x : Result VerifiedDocuments PullRefusal). Gives x at new) after.0 given))
+
+course_given : (Gives : Giving) (collect : Whole TrustedLayers) (decide : Answers → TrustedLayers → Whole VerifiedDocuments) (k : Kept) (old at new : Wire) (r : Result VerifiedDocuments PullRefusal) → Gives r at new → CourseBy NothingTold collect decide k old at r → CourseBy Gives collect decide k old new r
+course_given Gives collect decide k old at new r given course = record {
+  searched_at = course.searched_at;
+  kept = course.kept;
+  found = course.found;
+  search = course.search;
+  after = after_given Gives decide course.kept course.found course.searched_at at new r given course.after;
+}
+
+justified_given : (settings : LiveSettings) (image : Reference) (k : Kept) (old at new : Wire) (r : Result VerifiedDocuments PullRefusal) (given : DocumentsTold r at new) (course : CourseBy NothingTold (collect_row settings image) (decide_row settings image) k old at r) → JustifiedBy NothingTold settings image k old at r course → JustifiedBy DocumentsTold settings image k old new r (course_given DocumentsTold (collect_row settings image) (decide_row settings image) k old at new r given course)
+unfolding after_given course_given
+justified_given settings image k old at new r given course h = record { search = h.search; confined = h.confined; after = by_found course.kept course.found course.searched_at course.after h.after } where
+  by_found : (kept : Kept) (found : Result TrustedLayers PullRefusal) (searched : Wire) (after : AfterSearchBy NothingTold (decide_row settings image) kept found searched at r) → AfterJustified NothingTold settings image kept found searched at r after → AfterJustified DocumentsTold settings image kept found searched new r (after_given DocumentsTold (decide_row settings image) kept found searched at new r given after)
+  by_found kept (Ok found) searched after h = h
+  by_found kept (Err e) searched after h = tt
+
+pub sent : (settings : LiveSettings) (old at new : Wire) (r : Result VerifiedDocuments PullRefusal) → DocumentsTold r at new → DecidedDocuments settings r old at → LiveDocuments settings r old new
+sent settings old at new r given h = record {
+  image = h.image;
+  reads = h.reads;
+  course = course_given DocumentsTold (collect_row settings h.image) (decide_row settings h.image) (fresh true) old at new r given h.course;
+  justified = justified_given settings h.image (fresh true) old at new r given h.course h.justified;
+}
+
+-- how a pull ends whose result was sent
+pub delivered_ends : (settings : LiveSettings) (old at new : Wire) (r : Result VerifiedDocuments PullRefusal) (s : Status) → Decides (λ r. DecidedDocuments settings r old at) (Ok r) at → DeliversBy DocumentsTold r s at new → Ends (λ r. LiveDocuments settings r old new) s new
+delivered_ends settings old at new (Ok d) status.Pulled decided given = (d, sent settings old at new (Ok d) given decided)
+delivered_ends settings old at new (Err e) status.Pulled decided given = absurd given
+delivered_ends settings old at new (Ok d) status.Refused decided given = absurd given
+delivered_ends settings old at new (Err e) status.Refused decided given = (e, given.0, sent settings old at new (Err e) given.1 (decided given.0))
+delivered_ends settings old at new (Ok d) status.UnreadableSettings decided given = absurd given
+delivered_ends settings old at new (Err e) status.UnreadableSettings decided given = absurd given
+delivered_ends settings old at new (Ok d) status.HostBroken decided given = given
+delivered_ends settings old at new (Err e) status.HostBroken decided given = given
+delivered_ends settings old at new (Ok d) status.SinkFault decided given = given
+delivered_ends settings old at new (Err e) status.SinkFault decided given = given
+delivered_ends settings old at new (Ok d) status.WantOfMemory decided given = tt
+delivered_ends settings old at new (Err e) status.WantOfMemory decided given = tt
+
+-- and one that ended before
+pub early_ends : (settings : LiveSettings) (old new : Wire) (s : Status) → EndsEarly s new → Ends (λ r. LiveDocuments settings r old new) s new
+early_ends settings old new status.Pulled h = absurd h
+early_ends settings old new status.Refused h = absurd h
+early_ends settings old new status.UnreadableSettings h = absurd h
+early_ends settings old new status.HostBroken h = h
+early_ends settings old new status.SinkFault h = h
+early_ends settings old new status.WantOfMemory h = tt

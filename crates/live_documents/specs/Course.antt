@@ -17,33 +17,47 @@ abbrev pub DocumentsTold : Result VerifiedDocuments PullRefusal → Wire → Wir
 DocumentsTold (Ok d) old new = WereTold (documents_sent d ++ decided_sent d ∷ []) old new
 DocumentsTold (Err refusal) old new = RefusalTold refusal old new
 
+-- what was sent for a result
+abbrev pub Giving : Type 1
+Giving = Result VerifiedDocuments PullRefusal → Wire → Wire → Type 0
+
+-- nothing was
+abbrev pub NothingTold : Giving
+NothingTold r old new = old ≡ new
+
 -- the decision, and what was sent for it
-pub record Finished (decide : Whole VerifiedDocuments) (k : Kept) (old new : Wire)
+pub record FinishedBy (Gives : Giving) (decide : Whole VerifiedDocuments) (k : Kept) (old new : Wire)
     (r : Result VerifiedDocuments PullRefusal) : Type 0 where
   pub decided_at : Wire
   pub left : Kept
   pub decision : Transfer decide old decided_at k left r
-  pub given : DocumentsTold r decided_at new
+  pub given : Gives r decided_at new
 
 -- the host was asked about the layers found, and its answers decided
-pub record AskedAndDecided (decide : Answers → TrustedLayers → Whole VerifiedDocuments) (k : Kept)
+pub record AskedAndDecidedBy (Gives : Giving) (decide : Answers → TrustedLayers → Whole VerifiedDocuments) (k : Kept)
     (found : TrustedLayers) (old new : Wire) (r : Result VerifiedDocuments PullRefusal) : Type 0 where
   pub asked_at : Wire
   pub answers : Answers
   pub questions : WereAsked answers.list old asked_at
-  pub finished : Finished (decide answers found) k asked_at new r
+  pub finished : FinishedBy Gives (decide answers found) k asked_at new r
 
 -- what follows the search: its error was sent; or the host was asked, and the documents were decided on
-abbrev pub AfterSearch : (Answers → TrustedLayers → Whole VerifiedDocuments) → Kept
+abbrev pub AfterSearchBy : Giving → (Answers → TrustedLayers → Whole VerifiedDocuments) → Kept
     → Result TrustedLayers PullRefusal → Wire → Wire → Result VerifiedDocuments PullRefusal → Type 0
-AfterSearch decide k (Ok found) old new r = AskedAndDecided decide k found old new r
-AfterSearch decide k (Err e) old new r = (r ≡ Err e) × RefusalTold e old new
+AfterSearchBy Gives decide k (Ok found) old new r = AskedAndDecidedBy Gives decide k found old new r
+AfterSearchBy Gives decide k (Err e) old new r = (r ≡ Err e) × Gives (Err e) old new
 
 -- a search, and what follows it
-pub record Course (collect : Whole TrustedLayers) (decide : Answers → TrustedLayers → Whole VerifiedDocuments)
-    (k : Kept) (old new : Wire) (r : Result VerifiedDocuments PullRefusal) : Type 0 where
+pub record CourseBy (Gives : Giving) (collect : Whole TrustedLayers)
+    (decide : Answers → TrustedLayers → Whole VerifiedDocuments) (k : Kept) (old new : Wire)
+    (r : Result VerifiedDocuments PullRefusal) : Type 0 where
   pub searched_at : Wire
   pub kept : Kept
   pub found : Result TrustedLayers PullRefusal
   pub search : Transfer collect old searched_at k kept found
-  pub after : AfterSearch decide kept found searched_at new r
+  pub after : AfterSearchBy Gives decide kept found searched_at new r
+
+-- the same, with documents or a refusal sent at its end
+abbrev pub Course : Whole TrustedLayers → (Answers → TrustedLayers → Whole VerifiedDocuments) → Kept → Wire → Wire
+    → Result VerifiedDocuments PullRefusal → Type 0
+Course = CourseBy DocumentsTold

@@ -1,6 +1,5 @@
 pub mod Course
-pub mod First
+pub mod Decided
 pub mod LiveDocuments
 pub mod Rows
 pub mod Justified
-pub mod Whole

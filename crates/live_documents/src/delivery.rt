@@ -12,8 +12,8 @@ use live_host::{HostError, Streams, give_documents, give_end};
 use live_pull::{Status, deliver_refusal};
 use std::alloc::Global;
 
-// The documents, the signature layer, and the end.
-fn give_all<S: Source, K: Sink>(
+/// Sends documents, the signature layer that stands for their digest, and that they were pulled.
+pub fn give_decided<S: Source, K: Sink>(
     alloc: Global,
     streams: &mut Streams<S, K>,
     documents: &VerifiedDocuments,
@@ -35,14 +35,14 @@ fn deliver_documents<S: Source, K: Sink>(
     ensures { DeliversBy DocumentsTold (Ok documents.now) result
         (wire S.state K.state streams.old) (wire S.state K.state streams.new) }
 {
-    match give_all(alloc, streams, documents) {
+    match give_decided(alloc, streams, documents) {
         Ok(()) => Status::Pulled,
         Err(error) => Status::from(error),
     }
 }
 
-// Why no documents were pulled, unless memory ran out.
-pub(crate) fn deliver_error<S: Source, K: Sink>(
+/// Sends why no documents were pulled, unless memory ran out. Returns the exit status.
+pub fn deliver_error<S: Source, K: Sink>(
     alloc: Global,
     streams: &mut Streams<S, K>,
     refusal: &PullRefusal,

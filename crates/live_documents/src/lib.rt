@@ -3,11 +3,8 @@
 #![tactic(auto)]
 
 mod delivery;
-mod first;
 mod live;
 mod parts;
-mod whole;
 
-pub use first::FirstFrame;
-pub use live::serve_documents;
-pub use whole::run;
+pub use delivery::{deliver_error, give_decided};
+pub use live::{Decided, search_and_decide, serve_documents};

@@ -1,15 +1,16 @@
 // A live pull of documents, from its settings to its end.
-ghost use Rattle.std.specs.Prelude.{◌≡◌, Err};
+ghost use Rattle.std.specs.Prelude.{◌≡◌, Ok, Err};
 ghost use Rattle.cosign_client.specs.State.{client_state};
 ghost use Rattle.live_host.specs.Wire.{wire};
 ghost use Rattle.live_pull.specs.Live.{Ends};
 ghost use Rattle.live_pull.specs.Parts.{DeliversBy};
 ghost use Rattle.live_pull.specs.Settings.{IsReady};
-ghost use Rattle.live_documents.specs.Course.{AskedAndDecided, Course, DocumentsTold, Finished};
+ghost use Rattle.live_documents.specs.Course.{AskedAndDecidedBy, CourseBy, DocumentsTold, FinishedBy, NothingTold};
+ghost use Rattle.live_documents.specs.Decided.{DecidedDocuments, Decides};
 ghost use Rattle.live_documents.specs.LiveDocuments.{LiveDocuments};
 ghost use Rattle.live_documents.specs.Rows.{collect_for, decide_for};
 
-use crate::delivery::{deliver, deliver_error};
+use crate::delivery::deliver;
 use crate::parts::{collect, decide};
 use byte_streams::{Sink, Source};
 use cosign_client::{PullRefusal, TrustedLayers, ask_for};
@@ -20,10 +21,16 @@ use live_pull::{Ended, LiveSettings, Opened, Prepared, Status, Terms, open_setti
 use recorded_case::constraints_from;
 use std::alloc::Global;
 
+/// What was decided about documents, and the streams then; or the exit status, if the streams broke before or memory
+/// ran out.
+#[derive(Drop)]
+pub struct Decided<S, K> {
+    pub streams: Streams<S, K>,
+    pub outcome: Result<Result<VerifiedDocuments, PullRefusal>, Status>,
+}
+
 // Large values are dropped in functions without other facts.
 fn drop_outcome(_outcome: Result<VerifiedDocuments, PullRefusal>) {}
-
-fn drop_refusal(_refusal: PullRefusal) {}
 
 fn drop_found(_found: TrustedLayers) {}
 
@@ -35,37 +42,31 @@ fn end_with<S, K>(status: Status, streams: Streams<S, K>) -> Ended<S, K>
     Ended { status, streams }
 }
 
-// The search's error is sent.
-fn end_refused<S: Source, K: Sink>(
-    alloc: Global,
-    streams: Streams<S, K>,
-    refusal: PullRefusal,
-) -> Ended<S, K>
-    ensures { DeliversBy DocumentsTold (Err refusal) result.status
-        (wire S.state K.state streams) (wire S.state K.state result.streams) }
+fn undecided<S, K>(status: Status, streams: Streams<S, K>) -> Decided<S, K>
+    ensures { result ≡ record { streams = streams; outcome = Err status } }
 {
-    let mut streams = streams;
-    let status = deliver_error(alloc, &mut streams, &refusal);
-    drop_refusal(refusal);
-    Ended { status, streams }
+    Decided {
+        streams,
+        outcome: Err(status),
+    }
 }
 
-// The decision under the host's answers, and what is sent for it.
+// The decision under the host's answers.
 fn finish<S: Source, K: Sink>(
     alloc: Global,
     streams: Streams<S, K>,
     prepared: &mut Prepared,
     answers: &Answers,
     found: TrustedLayers,
-) -> Ended<S, K>
-    ensures { Ends (Finished
+) -> Decided<S, K>
+    ensures { Decides (FinishedBy NothingTold
         (decide_for (λ b. accepts (b.vtable, b.value)) prepared.old.terms prepared.old.client.rekor_pub_keys
         (client_state prepared.old.client).settings answers.now found)
         (client_state prepared.old.client).kept
         (wire S.state K.state streams) (wire S.state K.state result.streams))
-        result.status (wire S.state K.state result.streams) }
+        result.outcome (wire S.state K.state result.streams) }
 {
-    let (mut streams, outcome) = decide(
+    let (streams, outcome) = decide(
         alloc,
         streams,
         &mut prepared.client,
@@ -73,9 +74,10 @@ fn finish<S: Source, K: Sink>(
         answers,
         found,
     );
-    let status = deliver(alloc, &mut streams, &outcome);
-    drop_outcome(outcome);
-    Ended { status, streams }
+    Decided {
+        streams,
+        outcome: Ok(outcome),
+    }
 }
 
 // The questions to the host about the found layers, and the decision under its answers.
@@ -84,13 +86,13 @@ fn ask_and_decide<S: Source, K: Sink>(
     streams: Streams<S, K>,
     prepared: &mut Prepared,
     found: TrustedLayers,
-) -> Ended<S, K>
-    ensures { Ends (AskedAndDecided
+) -> Decided<S, K>
+    ensures { Decides (AskedAndDecidedBy NothingTold
         (decide_for (λ b. accepts (b.vtable, b.value)) prepared.old.terms prepared.old.client.rekor_pub_keys
         (client_state prepared.old.client).settings)
         (client_state prepared.old.client).kept found
         (wire S.state K.state streams) (wire S.state K.state result.streams))
-        result.status (wire S.state K.state result.streams) }
+        result.outcome (wire S.state K.state result.streams) }
 {
     let mut streams = streams;
     let asked = ask_layers(
@@ -104,7 +106,7 @@ fn ask_and_decide<S: Source, K: Sink>(
         Ok(answers) => finish(alloc, streams, prepared, &answers, found),
         Err(error) => {
             drop_found(found);
-            end_with(Status::from(error), streams)
+            undecided(Status::from(error), streams)
         }
     }
 }
@@ -114,43 +116,46 @@ fn converse<S: Source, K: Sink>(
     alloc: Global,
     streams: Streams<S, K>,
     prepared: &mut Prepared,
-) -> Ended<S, K>
-    ensures { Ends (Course
+) -> Decided<S, K>
+    ensures { Decides (CourseBy NothingTold
         (collect_for (λ b. accepts (b.vtable, b.value)) prepared.old.terms prepared.old.client.rekor_pub_keys
         (client_state prepared.old.client).settings)
         (decide_for (λ b. accepts (b.vtable, b.value)) prepared.old.terms prepared.old.client.rekor_pub_keys
         (client_state prepared.old.client).settings)
         (client_state prepared.old.client).kept
         (wire S.state K.state streams) (wire S.state K.state result.streams))
-        result.status (wire S.state K.state result.streams) }
+        result.outcome (wire S.state K.state result.streams) }
 {
     let (streams, found) = collect(alloc, streams, &mut prepared.client, &prepared.terms);
     match found {
         Ok(found) => ask_and_decide(alloc, streams, prepared, found),
-        Err(refusal) => end_refused(alloc, streams, refusal),
+        Err(refusal) => Decided {
+            streams,
+            outcome: Ok(Err(refusal)),
+        },
     }
 }
 
-/// Does what `run` does after a frame `documents` was received: searches signature layers, asks the host about them,
-/// decides under its answers, and sends the documents of the image, or why they were refused. Nothing is searched
-/// twice, and no blob of the image is requested. Returns the exit status and the streams.
-pub fn serve_documents<S: Source, K: Sink>(
+/// Searches signature layers, asks the host about them, and decides on the documents of the image under its answers.
+/// Nothing is searched twice, no blob of the image is requested, and the result is not sent. Returns the exit status in
+/// place of the result if the host's stream or the output failed, or if memory ran out.
+pub fn search_and_decide<S: Source, K: Sink>(
     alloc: Global,
     streams: Streams<S, K>,
     settings: LiveSettings,
-) -> Ended<S, K>
+) -> Decided<S, K>
     requires { IsReady settings }
-    ensures status { Ends (λ r. LiveDocuments settings r
+    ensures decided { Decides (λ r. DecidedDocuments settings r
         (wire S.state K.state streams) (wire S.state K.state result.streams))
-        result.status (wire S.state K.state result.streams) }
+        result.outcome (wire S.state K.state result.streams) }
 {
     let asked = match ask_for(alloc, settings.reference.as_str(), &settings.auth) {
         Ok(asked) => asked,
-        Err(_) => return end_with(Status::WantOfMemory, streams),
+        Err(_) => return undecided(Status::WantOfMemory, streams),
     };
     let constraints = match constraints_from(alloc, settings.constraints.as_slice()) {
         Ok(constraints) => constraints,
-        Err(_) => return end_with(Status::WantOfMemory, streams),
+        Err(_) => return undecided(Status::WantOfMemory, streams),
     };
     let Opened {
         client,
@@ -169,7 +174,42 @@ pub fn serve_documents<S: Source, K: Sink>(
         policy: PullPolicy { keys, constraints },
     };
     let mut prepared = Prepared { client, terms };
-    let ended = converse(alloc, streams, &mut prepared);
+    let decided = converse(alloc, streams, &mut prepared);
     drop_prepared(prepared);
-    ended
+    decided
+}
+
+// The result is sent.
+fn end_delivered<S: Source, K: Sink>(
+    alloc: Global,
+    streams: Streams<S, K>,
+    outcome: Result<VerifiedDocuments, PullRefusal>,
+) -> Ended<S, K>
+    ensures { DeliversBy DocumentsTold outcome result.status
+        (wire S.state K.state streams) (wire S.state K.state result.streams) }
+{
+    let mut streams = streams;
+    let status = deliver(alloc, &mut streams, &outcome);
+    drop_outcome(outcome);
+    Ended { status, streams }
+}
+
+/// Does what `run` does after a frame `documents` was received: searches signature layers, asks the host about them,
+/// decides under its answers, and sends the documents of the image, or why they were refused. Nothing is searched
+/// twice, and no blob of the image is requested. Returns the exit status and the streams.
+pub fn serve_documents<S: Source, K: Sink>(
+    alloc: Global,
+    streams: Streams<S, K>,
+    settings: LiveSettings,
+) -> Ended<S, K>
+    requires { IsReady settings }
+    ensures status { Ends (λ r. LiveDocuments settings r
+        (wire S.state K.state streams) (wire S.state K.state result.streams))
+        result.status (wire S.state K.state result.streams) }
+{
+    let Decided { streams, outcome } = search_and_decide(alloc, streams, settings);
+    match outcome {
+        Ok(outcome) => end_delivered(alloc, streams, outcome),
+        Err(status) => end_with(status, streams),
+    }
 }

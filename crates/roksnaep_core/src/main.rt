@@ -1,10 +1,10 @@
-//! The program: `run` of `live_documents` over standard input and output.
+//! The program: `run` of `live_words` over standard input and output.
 #![tactic(auto)]
 
 pub use byte_streams::{StdSink, StdSource};
-pub use live_documents::run;
 pub use live_host::Streams;
 pub use live_pull::{Ended, Status};
+pub use live_words::run;
 use std::process::ExitCode;
 
 // What an exit status other than 0 and 1 means, and what to do.

@@ -1,12 +1,8 @@
-use Rattle.live_pull.proofs.PartsTogether.{prepared_in, prepares_opened}
-use Rattle.live_documents.proofs.Justifies.{live_ends}
+use Rattle.live_documents.proofs.Justifies.{delivered_ends, early_ends}
 use Rattle.live_documents.proofs.live.serve_documents.Goals as goal
 
-pub returns : goal.returns
-returns g c = record {
-  status =
-      live_ends _ c.args.settings (prepared_in c.open_settings-client.result c.in-Ok-constraints_from.constraints) _ _ _
-      (prepares_opened c.in-Ok.asked c.args.settings c.open_settings-client.result c.in-Ok-constraints_from.constraints c.in-Ok.ensures.usual c.open_settings-client.ensures
-      (rw c.as_str.ensures at c.in-Ok.ensures.image) c.in-Ok.ensures.auth (rw c.as_slice.ensures at c.in-Ok-constraints_from.ensures))
-      c.converse-ended.ensures;
-}
+pub returns-in-Ok : goal.returns-in-Ok
+returns-in-Ok g c = record { status = delivered_ends c.args.settings _ _ _ c.in-Ok.outcome c.end_delivered.result.status (rw c.in-Ok.is at c.search_and_decide-streams.ensures.decided) c.end_delivered.ensures }
+
+pub returns-in-Err : goal.returns-in-Err
+returns-in-Err g c = record { status = rw c.end_with.ensures (early_ends c.args.settings _ _ c.in-Err.status (rw c.in-Err.is at c.search_and_decide-streams.ensures.decided)) }

@@ -1,0 +1,3 @@
+pub mod Decisions
+pub mod Ends
+pub mod Reviews

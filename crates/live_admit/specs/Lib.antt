@@ -1,0 +1,4 @@
+pub mod Decided
+pub mod Frames
+pub mod Served
+pub mod Settings

@@ -1,0 +1,59 @@
+// The decision about an image by the settings of a rule.
+ghost use Rattle.std.specs.Prelude.{◌≡◌};
+ghost use Rattle.live_host.specs.Wire.{wire};
+ghost use Rattle.live_pull.specs.Settings.{IsReady};
+ghost use Rattle.live_admit.specs.Decided.{DecidedBy, Gives, VerdictOf};
+
+use crate::outcome::verdict_of;
+use byte_streams::{Sink, Source};
+use cosign_client::PullRefusal;
+use cosign_documents::VerifiedDocuments;
+use live_documents::{Decided, search_and_decide};
+use live_host::Streams;
+use live_pull::{LiveSettings, Status};
+use pod_reviews::Verdict;
+use std::alloc::Global;
+
+/// The verdict about an image, or why the conversation ended, and the streams.
+#[derive(Drop)]
+pub(crate) struct Judged<S, K> {
+    pub streams: Streams<S, K>,
+    pub verdict: Result<Verdict, Status>,
+}
+
+// Dropped in a function without other facts.
+fn drop_outcome(_outcome: Result<VerifiedDocuments, PullRefusal>) {}
+
+// The verdict of a decision.
+fn judge_outcome<S: Source, K: Sink>(
+    alloc: Global,
+    streams: Streams<S, K>,
+    outcome: Result<VerifiedDocuments, PullRefusal>,
+) -> Judged<S, K>
+    ensures streams { result.streams ≡ streams }
+    ensures verdict { Gives (VerdictOf outcome) result.verdict (wire S.state K.state result.streams) }
+{
+    let verdict = verdict_of(alloc, &outcome);
+    drop_outcome(outcome);
+    Judged { streams, verdict }
+}
+
+/// Decides about the image of these settings, as the frame `documents` does.
+pub(crate) fn decide<S: Source, K: Sink>(
+    alloc: Global,
+    streams: Streams<S, K>,
+    settings: LiveSettings,
+) -> Judged<S, K>
+    requires { IsReady settings }
+    ensures { Gives (λ v. DecidedBy settings v (wire S.state K.state streams) (wire S.state K.state result.streams))
+        result.verdict (wire S.state K.state result.streams) }
+{
+    let Decided { streams, outcome } = search_and_decide(alloc, streams, settings);
+    match outcome {
+        Ok(outcome) => judge_outcome(alloc, streams, outcome),
+        Err(status) => Judged {
+            streams,
+            verdict: Err(status),
+        },
+    }
+}

@@ -1,0 +1,16 @@
+//! Admission reviews with a host: each image of a review is decided under the rule that covers it, and the response to
+//! the review is sent.
+#![tactic(auto)]
+
+mod decision;
+mod frames;
+mod image;
+mod images;
+mod outcome;
+mod review;
+mod serve;
+mod settings;
+
+pub use frames::ReviewFrame;
+pub use serve::serve_admit;
+pub use settings::{AdmitSettings, read_admit_settings};

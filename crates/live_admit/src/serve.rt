@@ -1,0 +1,63 @@
+// All reviews.
+ghost use Rattle.std.specs.Prelude.{◌≡◌};
+ghost use Rattle.live_host.specs.Wire.{wire};
+ghost use Rattle.live_admit.specs.Served.{Serves};
+
+use crate::review::{Step, serve_review};
+use crate::settings::AdmitSettings;
+use admit_rules::Rule;
+use byte_streams::{Sink, Source};
+use live_host::Streams;
+use live_pull::{Ended, LiveSettings, Status};
+use std::alloc::Global;
+
+// Dropped in a function without other facts.
+fn drop_settings(_settings: AdmitSettings) {}
+
+fn end_with<S, K>(status: Status, streams: Streams<S, K>) -> Ended<S, K>
+    ensures { result ≡ record { status = status; streams = streams } }
+{
+    Ended { status, streams }
+}
+
+// The reviews, one after another.
+fn serve_each<S: Source, K: Sink>(
+    alloc: Global,
+    streams: Streams<S, K>,
+    rules: &[Rule<LiveSettings>],
+    reviews: u64,
+) -> Ended<S, K>
+    ensures { Serves rules.now reviews result.status
+        (wire S.state K.state streams) (wire S.state K.state result.streams) }
+{
+    let mut streams = streams;
+    let mut served = 0u64;
+    while served < reviews {
+        let Step {
+            streams: left,
+            outcome,
+        } = serve_review(alloc, streams, rules);
+        streams = left;
+        if let Err(status) = outcome {
+            return end_with(status, streams);
+        }
+        served += 1;
+    }
+    end_with(Status::Pulled, streams)
+}
+
+/// Serves admission reviews after a frame `admit` was received: receives one frame `review` after another, decides
+/// about each image of the review under the first rule that covers it, as the frame `documents` does, and sends the
+/// response, until as many reviews were served as the settings say. Returns the exit status and the streams.
+pub fn serve_admit<S: Source, K: Sink>(
+    alloc: Global,
+    streams: Streams<S, K>,
+    settings: AdmitSettings,
+) -> Ended<S, K>
+    ensures status { Serves settings.rules settings.reviews result.status
+        (wire S.state K.state streams) (wire S.state K.state result.streams) }
+{
+    let ended = serve_each(alloc, streams, settings.rules.as_slice(), settings.reviews);
+    drop_settings(settings);
+    ended
+}

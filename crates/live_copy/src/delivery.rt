@@ -1,0 +1,115 @@
+// What is sent at the end of a copy.
+ghost use Rattle.std.specs.Prelude.{◌≡◌, Ok, Err, IfErr, IfOk, OnOk};
+ghost use Rattle.live_host.specs.HostErrors.{HostCause};
+ghost use Rattle.live_host.specs.Wire.{wire};
+ghost use Rattle.live_copy.specs.Course.{CopyTold, IsReport, ran_out};
+ghost use Rattle.live_copy.specs.Parts.{EndsBy};
+
+use crate::heads::copied_head;
+use byte_streams::{Sink, Source};
+use json_values::{Blob, Text};
+use live_host::{HostError, Streams, refused_head, tell};
+use live_pull::Status;
+use pull_mirror::{DocumentsRefusal, PushReport};
+use pull_report::print_line;
+use std::alloc::{AllocError, Global};
+
+// The line of a refusal, or nothing if it is not UTF-8.
+fn report_of(alloc: Global, refusal: &DocumentsRefusal) -> Result<Text, AllocError>
+    ensures { IfOk result (λ report. IsReport refusal.now report) }
+{
+    let mut line = Blob::empty(alloc);
+    print_line(alloc, &mut line, "refused", refusal)?;
+    match std::str::from_utf8(line.as_slice()) {
+        Ok(text) => Text::new(alloc, text),
+        Err(_) => Text::new(alloc, ""),
+    }
+}
+
+fn give_refusal<S: Source, K: Sink>(
+    alloc: Global,
+    streams: &mut Streams<S, K>,
+    refusal: &DocumentsRefusal,
+) -> Result<(), HostError>
+    ensures told { OnOk result (CopyTold (Err refusal.now)
+        (wire S.state K.state streams.old) (wire S.state K.state streams.new)) }
+    ensures cause { IfErr result (λ e. HostCause e (wire S.state K.state streams.new)) }
+{
+    let report = report_of(alloc, refusal)?;
+    let head = refused_head(alloc, report.as_str())?;
+    tell(alloc, streams, &head, &[])?;
+    Ok(())
+}
+
+fn give_report<S: Source, K: Sink>(
+    alloc: Global,
+    streams: &mut Streams<S, K>,
+    report: &PushReport,
+) -> Result<(), HostError>
+    ensures told { OnOk result (CopyTold (Ok report.now)
+        (wire S.state K.state streams.old) (wire S.state K.state streams.new)) }
+    ensures cause { IfErr result (λ e. HostCause e (wire S.state K.state streams.new)) }
+{
+    let head = copied_head(alloc, &report.manifest_url, &report.pushed)?;
+    tell(alloc, streams, &head, &[])?;
+    Ok(())
+}
+
+fn ran_out(refusal: &DocumentsRefusal) -> bool
+    ensures { result ≡ ran_out refusal.now }
+{
+    match refusal {
+        DocumentsRefusal::Missing { .. } => false,
+        DocumentsRefusal::Refused { .. } => false,
+        DocumentsRefusal::WantOfMemory => true,
+    }
+}
+
+fn deliver_report<S: Source, K: Sink>(
+    alloc: Global,
+    streams: &mut Streams<S, K>,
+    report: &PushReport,
+) -> Status
+    ensures { EndsBy (λ r. (r ≡ Ok report.now) × CopyTold r
+        (wire S.state K.state streams.old) (wire S.state K.state streams.new))
+        result (wire S.state K.state streams.new) }
+{
+    match give_report(alloc, streams, report) {
+        Ok(()) => Status::Pulled,
+        Err(error) => Status::from(error),
+    }
+}
+
+fn deliver_refusal<S: Source, K: Sink>(
+    alloc: Global,
+    streams: &mut Streams<S, K>,
+    refusal: &DocumentsRefusal,
+) -> Status
+    ensures { EndsBy (λ r. (r ≡ Err refusal.now) × CopyTold r
+        (wire S.state K.state streams.old) (wire S.state K.state streams.new))
+        result (wire S.state K.state streams.new) }
+{
+    if ran_out(refusal) {
+        return Status::WantOfMemory;
+    }
+    match give_refusal(alloc, streams, refusal) {
+        Ok(()) => Status::Refused,
+        Err(error) => Status::from(error),
+    }
+}
+
+/// Sends what was pushed, or why a copy was refused, unless memory ran out. Returns the exit status.
+pub(crate) fn deliver<S: Source, K: Sink>(
+    alloc: Global,
+    streams: &mut Streams<S, K>,
+    outcome: &Result<PushReport, DocumentsRefusal>,
+) -> Status
+    ensures { EndsBy (λ r. (r ≡ outcome.now) × CopyTold r
+        (wire S.state K.state streams.old) (wire S.state K.state streams.new))
+        result (wire S.state K.state streams.new) }
+{
+    match outcome {
+        Ok(report) => deliver_report(alloc, streams, report),
+        Err(refusal) => deliver_refusal(alloc, streams, refusal),
+    }
+}

@@ -1,0 +1,215 @@
+// A copy, from its settings to its end.
+ghost use Rattle.std.specs.Prelude.{◌≡◌, [], codes, Err, IfErr, Ok, OnOk, is_some};
+ghost use Rattle.live_host.specs.Names.{frame_named};
+ghost use Rattle.live_host.specs.Wire.{wire, SendsAndReceives, Wire};
+ghost use Rattle.live_pull.specs.Parts.{DeliversBy};
+ghost use Rattle.live_documents.specs.Course.{DocumentsTold};
+ghost use Rattle.live_documents.specs.Decided.{DecidedDocuments, Decides};
+ghost use Rattle.live_copy.specs.Course.{CopyEnds};
+ghost use Rattle.live_copy.specs.Heads.{carried_of, carry_head};
+ghost use Rattle.live_copy.specs.Opening.{Opens};
+ghost use Rattle.live_copy.specs.Parts.{EndsBefore, EndsBy, HandedAndPushed, HandedOver, PushedAndTold};
+ghost use Rattle.live_copy.specs.Settings.{AreReady};
+ghost use Rattle.live_copy.specs.declared.settings.CopySettings.{CopySettings as Settings};
+
+use crate::delivery::deliver;
+use crate::heads::{carry_head, side_head};
+use crate::opening::{Opened, open};
+use crate::pushes::push;
+use crate::settings::CopySettings;
+use byte_streams::{Sink, Source};
+use cosign_client::PullRefusal;
+use cosign_documents::VerifiedDocuments;
+use json_values::Json;
+use live_documents::{Decided, deliver_error, give_decided, search_and_decide};
+use live_host::{Streams, hear, is_frame, tell};
+use live_pull::{Ended, LiveSettings, Status};
+use pull_mirror::{DocumentsRefusal, PushReport};
+use std::alloc::Global;
+
+// Large values are dropped in functions without other facts.
+fn drop_outcome(_outcome: Result<PushReport, DocumentsRefusal>) {}
+
+fn drop_documents(_documents: VerifiedDocuments) {}
+
+fn drop_refusal(_refusal: PullRefusal) {}
+
+fn drop_opened(_opened: Opened) {}
+
+fn end_with<S, K>(status: Status, streams: Streams<S, K>) -> Ended<S, K>
+    ensures { result ≡ record { status = status; streams = streams } }
+{
+    Ended { status, streams }
+}
+
+fn is_carried(frame: &Json) -> bool
+    ensures { result ≡ is_some (frame_named (codes "carried") frame.now) }
+{
+    is_frame(frame.value(), "carried")
+}
+
+// The host is asked to carry the blobs, and replies that it did.
+fn await_carried<S: Source, K: Sink>(
+    alloc: Global,
+    streams: &mut Streams<S, K>,
+) -> Result<(), Status>
+    ensures carried { OnOk result (SendsAndReceives carry_head [] carried_of tt
+        (wire S.state K.state streams.old) (wire S.state K.state streams.new)) }
+    ensures cause { IfErr result (λ s. EndsBefore s (wire S.state K.state streams.new)) }
+{
+    let head = carry_head(alloc)?;
+    tell(alloc, streams, &head, &[])?;
+    let frame = hear(alloc, streams)?;
+    if is_carried(&frame) {
+        return Ok(());
+    }
+    Err(Status::HostBroken)
+}
+
+// The documents are sent, and the host carries the blobs.
+fn hand_over<S: Source, K: Sink>(
+    alloc: Global,
+    streams: &mut Streams<S, K>,
+    found: &VerifiedDocuments,
+) -> Result<(), Status>
+    ensures handed { OnOk result (HandedOver found.now
+        (wire S.state K.state streams.old) (wire S.state K.state streams.new)) }
+    ensures cause { IfErr result (λ s. EndsBefore s (wire S.state K.state streams.new)) }
+{
+    give_decided(alloc, streams, found)?;
+    let side = side_head(alloc)?;
+    tell(alloc, streams, &side, &[])?;
+    await_carried(alloc, streams)?;
+    Ok(())
+}
+
+// The pushes, and what is sent of them.
+fn push_and_tell<S: Source, K: Sink>(
+    alloc: Global,
+    streams: Streams<S, K>,
+    opened: &mut Opened,
+    found: &VerifiedDocuments,
+) -> Ended<S, K>
+    ensures { EndsBy (PushedAndTold opened.old found.now
+        (wire S.state K.state streams) (wire S.state K.state result.streams))
+        result.status (wire S.state K.state result.streams) }
+{
+    let (mut streams, outcome) = push(alloc, streams, opened, found);
+    let status = deliver(alloc, &mut streams, &outcome);
+    drop_outcome(outcome);
+    Ended { status, streams }
+}
+
+// What follows the decision: the documents are sent, the host carries the blobs, and the documents are pushed.
+fn copy_found<S: Source, K: Sink>(
+    alloc: Global,
+    streams: Streams<S, K>,
+    opened: &mut Opened,
+    found: &VerifiedDocuments,
+) -> Ended<S, K>
+    ensures { EndsBy (HandedAndPushed opened.old found.now
+        (wire S.state K.state streams) (wire S.state K.state result.streams))
+        result.status (wire S.state K.state result.streams) }
+{
+    let mut streams = streams;
+    match hand_over(alloc, &mut streams, found) {
+        Ok(()) => push_and_tell(alloc, streams, opened, found),
+        Err(status) => end_with(status, streams),
+    }
+}
+
+fn copy_decided<S: Source, K: Sink>(
+    alloc: Global,
+    streams: Streams<S, K>,
+    opened: &mut Opened,
+    documents: VerifiedDocuments,
+) -> Ended<S, K>
+    ensures { EndsBy (HandedAndPushed opened.old documents
+        (wire S.state K.state streams) (wire S.state K.state result.streams))
+        result.status (wire S.state K.state result.streams) }
+{
+    let ended = copy_found(alloc, streams, opened, &documents);
+    drop_documents(documents);
+    ended
+}
+
+// The refusal of the source is sent.
+fn end_refused<S: Source, K: Sink>(
+    alloc: Global,
+    streams: Streams<S, K>,
+    refusal: PullRefusal,
+) -> Ended<S, K>
+    ensures { DeliversBy DocumentsTold (Err refusal) result.status
+        (wire S.state K.state streams) (wire S.state K.state result.streams) }
+{
+    let mut streams = streams;
+    let status = deliver_error(alloc, &mut streams, &refusal);
+    drop_refusal(refusal);
+    Ended { status, streams }
+}
+
+// What follows a decision.
+fn follow_decision<S: Source, K: Sink>(
+    alloc: Global,
+    streams: Streams<S, K>,
+    opened: &mut Opened,
+    outcome: Result<VerifiedDocuments, PullRefusal>,
+) -> Ended<S, K>
+    ensures { (settings : Settings) (begun : Wire) → Opens settings opened.old
+        → Decides (λ r. DecidedDocuments settings.settings r begun (wire S.state K.state streams))
+        (Ok outcome) (wire S.state K.state streams)
+        → CopyEnds settings result.status begun (wire S.state K.state result.streams) }
+{
+    match outcome {
+        Ok(documents) => copy_decided(alloc, streams, opened, documents),
+        Err(refusal) => end_refused(alloc, streams, refusal),
+    }
+}
+
+// What follows the search, or the end if there was no decision.
+fn follow<S: Source, K: Sink>(
+    alloc: Global,
+    decided: Decided<S, K>,
+    opened: &mut Opened,
+) -> Ended<S, K>
+    ensures { (settings : Settings) (begun : Wire) → Opens settings opened.old
+        → Decides (λ r. DecidedDocuments settings.settings r begun (wire S.state K.state decided.streams))
+        decided.outcome (wire S.state K.state decided.streams)
+        → CopyEnds settings result.status begun (wire S.state K.state result.streams) }
+{
+    let Decided { streams, outcome } = decided;
+    match outcome {
+        Ok(outcome) => follow_decision(alloc, streams, opened, outcome),
+        Err(status) => end_with(status, streams),
+    }
+}
+
+fn source_settings(settings: CopySettings) -> LiveSettings
+    ensures { result ≡ settings.settings }
+{
+    let CopySettings { settings, .. } = settings;
+    settings
+}
+
+/// Copies an image's documents with a host, after a frame `copy` was received: decides on them at the source as
+/// `serve_documents` does and sends them; waits until the host carried the blobs; asks the target for each blob, and
+/// pushes the documents as `push_documents` does; and sends what was pushed, or why it was refused. Returns the exit
+/// status and the streams.
+pub fn serve_copy<S: Source, K: Sink>(
+    alloc: Global,
+    streams: Streams<S, K>,
+    settings: CopySettings,
+) -> Ended<S, K>
+    requires { AreReady settings }
+    ensures status { CopyEnds settings result.status
+        (wire S.state K.state streams) (wire S.state K.state result.streams) }
+{
+    let mut opened = match open(alloc, &settings) {
+        Ok(opened) => opened,
+        Err(_) => return end_with(Status::WantOfMemory, streams),
+    };
+    let decided = search_and_decide(alloc, streams, source_settings(settings));
+    let ended = follow(alloc, decided, &mut opened);
+    drop_opened(opened);
+    ended
+}

@@ -1,0 +1,37 @@
+-- The first frame that a host sends.
+use Rattle.std.specs.Prelude.{List, [], ◌∷◌, Option, None, option_map, bytes_eq, codes, ℕ, if◌then◌else◌}
+use Rattle.serde_json.specs.Data.{Data}
+use Rattle.json_tables.specs.Paths.{text_at}
+use Rattle.json_tables.specs.Reading.{◌>>=◌}
+use Rattle.live_admit.specs.Settings.{admit_of}
+use Rattle.live_blobs.specs.Settings.{blobs_of}
+use Rattle.live_copy.specs.Settings.{copy_of}
+use Rattle.live_lock.specs.Settings.{lock_settings_of}
+use Rattle.live_pull.specs.Settings.{IsReady, documents_of, settings_of}
+use Rattle.live_blobs.specs.Settings.{AreReady as AreBlobsReady}
+use Rattle.live_copy.specs.Settings.{AreReady as IsCopyReady}
+use Rattle.live_words.specs.declared.first.FirstFrame.{FirstFrame}
+use Rattle.live_words.specs.declared.first.FirstFrame.TheVariants as first
+
+-- a frame of this name
+abbrev pub first_named : List ℕ → Data → Option FirstFrame
+first_named name d =
+    if bytes_eq name (codes "settings") then option_map first.Image (settings_of d)
+    else (if bytes_eq name (codes "documents") then option_map first.Documents (documents_of d)
+    else (if bytes_eq name (codes "lockcheck") then option_map first.Lock (lock_settings_of d)
+    else (if bytes_eq name (codes "blobs") then option_map first.Blobs (blobs_of d)
+    else (if bytes_eq name (codes "copy") then option_map first.Copy (copy_of d)
+    else (if bytes_eq name (codes "admit") then option_map first.Admit (admit_of d)
+    else None)))))
+
+unfoldable pub first_of : Data → Option FirstFrame
+first_of d = text_at (codes "frame" ∷ []) d >>= λ name. first_named name d
+
+-- each reference that is asked for parses
+abbrev pub IsFirstReady : FirstFrame → Type 0
+IsFirstReady (first.Image settings) = IsReady settings
+IsFirstReady (first.Documents settings) = IsReady settings
+IsFirstReady (first.Lock settings) = Unit {0}
+IsFirstReady (first.Blobs settings) = AreBlobsReady settings
+IsFirstReady (first.Copy settings) = IsCopyReady settings
+IsFirstReady (first.Admit settings) = Unit {0}

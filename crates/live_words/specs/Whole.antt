@@ -1,0 +1,34 @@
+-- What the core does, from the first frame on.
+use Rattle.std.specs.Prelude.{◌⊎◌, []}
+use Rattle.live_host.specs.Heads.{begin_head}
+use Rattle.live_host.specs.Wire.{Wire, SendsAndReceives}
+use Rattle.live_admit.specs.Served.{Serves as ReviewsServe}
+use Rattle.live_blobs.specs.Ends.{EndsBy}
+use Rattle.live_blobs.specs.LiveBlobs.{LiveBlobs}
+use Rattle.live_copy.specs.Course.{CopyEnds}
+use Rattle.live_documents.specs.LiveDocuments.{LiveDocuments}
+use Rattle.live_lock.specs.Checked.{EndsChecked, LockChecked}
+use Rattle.live_pull.specs.Live.{Ends, Live}
+use Rattle.live_pull.specs.Parts.{FirstCause}
+use Rattle.live_pull.specs.declared.status.Status.{Status}
+use Rattle.live_words.specs.First.{first_of}
+use Rattle.live_words.specs.declared.first.FirstFrame.{FirstFrame}
+use Rattle.live_words.specs.declared.first.FirstFrame.TheVariants as first
+
+-- how that which a first frame asks for ends
+abbrev pub Serves : FirstFrame → Status → Wire → Wire → Type 0
+Serves (first.Image settings) s old new = Ends (λ r. Live settings r old new) s new
+Serves (first.Documents settings) s old new = Ends (λ r. LiveDocuments settings r old new) s new
+Serves (first.Lock settings) s old new = EndsChecked (λ held. LockChecked settings held old new) s new
+Serves (first.Blobs settings) s old new = EndsBy (λ r. LiveBlobs settings r old new) s new
+Serves (first.Copy settings) s old new = CopyEnds settings s old new
+Serves (first.Admit settings) s old new = ReviewsServe settings.rules settings.reviews s old new
+
+-- a first frame was received, and what it asks for ended with this status
+abbrev pub FirstServed : Status → Wire → Wire → Type 0
+FirstServed s old new = (frame : FirstFrame) × (begun : Wire) × SendsAndReceives begin_head [] first_of frame old begun
+    × Serves frame s begun new
+
+-- what a status means: of what a first frame asks for; or why none was received
+abbrev pub CoreMeans : Status → Wire → Wire → Type 0
+CoreMeans s old new = FirstServed s old new ⊎ FirstCause first_of s old new

@@ -1,0 +1,92 @@
+// What the core does, as the first frame asks.
+ghost use Rattle.std.specs.Prelude.{◌≡◌, IfOk, IfErr, []};
+ghost use Rattle.live_host.specs.Heads.{begin_head};
+ghost use Rattle.live_host.specs.Wire.{wire, SendsAndReceives};
+ghost use Rattle.live_pull.specs.Parts.{FirstCause, ReadsFirst};
+ghost use Rattle.live_words.specs.First.{first_of, IsFirstReady};
+ghost use Rattle.live_words.specs.Whole.{CoreMeans, Serves};
+
+use crate::first::{FirstFrame, read_first};
+use byte_streams::{Sink, Source};
+use json_tables::ReadError;
+use json_values::Json;
+use live_admit::serve_admit;
+use live_blobs::serve_blobs;
+use live_copy::serve_copy;
+use live_documents::serve_documents;
+use live_host::{Streams, begin_head, hear, tell};
+use live_lock::serve_lock;
+use live_pull::{Ended, Status, serve};
+use std::alloc::Global;
+
+// What a frame asks for.
+fn first_in(alloc: Global, frame: &Json) -> Result<FirstFrame, Status>
+    ensures reads { ReadsFirst first_of result frame.now }
+    ensures ready { IfOk result IsFirstReady }
+{
+    match read_first(alloc, frame.value()) {
+        Ok(first) => Ok(first),
+        Err(ReadError::WantOfMemory) => Err(Status::WantOfMemory),
+        Err(ReadError::Shape) => Err(Status::UnreadableSettings),
+        Err(ReadError::Float) => Err(Status::UnreadableSettings),
+        Err(ReadError::Ambiguous) => Err(Status::UnreadableSettings),
+    }
+}
+
+// Begins, and receives the first frame.
+fn begin<S: Source, K: Sink>(
+    alloc: Global,
+    streams: &mut Streams<S, K>,
+) -> Result<FirstFrame, Status>
+    ensures begun { IfOk result (λ first. SendsAndReceives begin_head [] first_of first
+        (wire S.state K.state streams.old) (wire S.state K.state streams.new)) }
+    ensures ready { IfOk result IsFirstReady }
+    ensures cause { IfErr result (λ status. FirstCause first_of status
+        (wire S.state K.state streams.old) (wire S.state K.state streams.new)) }
+{
+    let head = begin_head(alloc)?;
+    tell(alloc, streams, &head, &[])?;
+    let frame = hear(alloc, streams)?;
+    let first = first_in(alloc, &frame)?;
+    Ok(first)
+}
+
+// What the first frame asks for.
+fn serve_first<S: Source, K: Sink>(
+    alloc: Global,
+    streams: Streams<S, K>,
+    first: FirstFrame,
+) -> Ended<S, K>
+    requires { IsFirstReady first }
+    ensures { Serves first result.status
+        (wire S.state K.state streams) (wire S.state K.state result.streams) }
+{
+    match first {
+        FirstFrame::Image(settings) => serve(alloc, streams, settings),
+        FirstFrame::Documents(settings) => serve_documents(alloc, streams, settings),
+        FirstFrame::Lock(settings) => serve_lock(alloc, streams, settings),
+        FirstFrame::Blobs(settings) => serve_blobs(alloc, streams, settings),
+        FirstFrame::Copy(settings) => serve_copy(alloc, streams, settings),
+        FirstFrame::Admit(settings) => serve_admit(alloc, streams, settings),
+    }
+}
+
+fn end_with<S, K>(status: Status, streams: Streams<S, K>) -> Ended<S, K>
+    ensures { result ≡ record { status = status; streams = streams } }
+{
+    Ended { status, streams }
+}
+
+/// Does what a host asks for, which opens the connections, verifies signatures and supplies the time: receives the first
+/// frame, pulls an image or its documents alone, or checks a lock file, and sends the result. Returns the exit status
+/// and the streams.
+pub fn run<S: Source, K: Sink>(alloc: Global, streams: Streams<S, K>) -> Ended<S, K>
+    ensures status { CoreMeans result.status
+        (wire S.state K.state streams) (wire S.state K.state result.streams) }
+{
+    let mut streams = streams;
+    match begin(alloc, &mut streams) {
+        Ok(first) => serve_first(alloc, streams, first),
+        Err(status) => end_with(status, streams),
+    }
+}
