@@ -1,6 +1,5 @@
 """The subcommands: each run, from its options to one sentence, or one JSON object, and a status."""
 import argparse
-import asyncio
 import contextlib
 import math
 import os
@@ -13,22 +12,22 @@ from pathlib import Path
 from typing import Any, NoReturn, Sized
 
 from host.certificates import Identity
-from host.conversation import Exchanges, converse
+from host.blobs import Blobs, Refused, parsed, refused_layer
+from host.conversation import Exchanges, Registry, Sent, converse
+from host.copies import Copy, Sides
 from host.core import Core, Frame
 from host.credentials import credentials
 from host.layout import Layout, Stored
-from host.lock import Lock, Pinned, Sent, entry_of, read_lock, text_of, whole, write_lock
+from host.lock import Lock, Pinned, entry_of, read_lock, text_of, whole, write_lock
 from host.network import SIGNALS, Network
 from host.options import parser
 from host.places import Access, is_loopback
 from host.policy import Policy, Rule, annotations_of, repository_of
 from host.refusals import Refusals
 from host.signatures import Signatures
-from host.terminal import OUTCOMES, End, printable, progress, tell
+from host.terminal import ENDS, OUTCOMES, End, failed, printable, progress, tell
 
 MACHINE = {"x86_64": "amd64", "aarch64": "arm64", "armv7l": "arm", "i686": "386"}.get(platform.machine(), platform.machine())
-ENDS = {3: "the reference is invalid, or --platform is not OS/ARCH; write registry/name:tag", 5: "the core could not write",
-        6: "out of memory; run it with more"}
 
 
 def rule_by(option: argparse.Namespace, reference: str) -> Rule:
@@ -48,6 +47,29 @@ def rule_by(option: argparse.Namespace, reference: str) -> Rule:
     return rule
 
 
+def logins(option: argparse.Namespace) -> list[list[str] | None]:
+    """The users of the registry and of a copy's target, if they are named, with their passwords: of two users one on each line."""
+    names = [option.username, getattr(option, "target_username", None)]
+    if bool(option.password_stdin) != any(names):
+        raise ValueError("--username and --password-stdin go together")
+    text = sys.stdin.read().rstrip("\r\n") if option.password_stdin else ""
+    passwords = text.splitlines() if all(names) else [text] * 2
+    if len(passwords) != 2:
+        raise ValueError("two users have two passwords, each on a line of standard input")
+    return [[name, password] if name else None for name, password in zip(names, passwords)]
+
+
+def reached(option: argparse.Namespace, end: float, reference: str, login: list[str] | None, is_plain: bool, authority: Path | None,
+            certificate: Path | None = None, private_key: Path | None = None) -> tuple[Frame, Network]:
+    """Members of the settings about a registry, and the connections to it."""
+    repository = repository_of(reference)
+    registry = repository.partition("/")[0]
+    auth = {"basic": login} if login else credentials(repository, option.authfile)
+    plain = is_plain or is_loopback(registry) and not (authority or certificate)
+    access = Access(registry, plain, option.allow_host, authority, certificate, private_key, option.proxy)
+    return {"reference": reference, "protocol": "http" if plain else "https", "auth": auth}, Network(access, option.timeout, end, option.limit)
+
+
 class Run:
     """One run of the command, from its options to what the core decided."""
 
@@ -55,11 +77,10 @@ class Run:
         """Reads all that the options name, so that what cannot work is refused before the first request."""
         self.option = option
         self.layout: Layout | None = None
-        self.settings: Frame = {"frame": "settings", "accepted": option.type, "blobs": option.word == "pull"}
+        self.settings: Frame = {"frame": "documents", "accepted": option.type}
+        self.has_blobs = option.word in ("pull", "check") or option.word == "verify" and option.blobs
         self.sent: Sent = []
         self.registry: Network | Stored | Pinned
-        if option.word in ("lock", "admit") or option.word == "verify" and not option.blobs:
-            self.settings = {"frame": "documents", "accepted": option.type}
         if option.word == "check":
             stored = Stored(Path(option.place), option.tag)
             if option.policy and not option.reference:
@@ -76,16 +97,14 @@ class Run:
         self.core = Core()
 
     def network(self, end: float) -> Network:
-        option, repository = self.option, repository_of(self.option.place)
-        registry = repository.partition("/")[0]
-        if bool(option.password_stdin) != bool(option.username):
-            raise ValueError("--username and --password-stdin go together")
-        auth = {"basic": [option.username, sys.stdin.read().rstrip("\r\n")]} if option.username else credentials(repository, option.authfile)
-        plain = option.http or is_loopback(registry) and not (option.ca or option.client_cert)
-        self.settings |= {"reference": option.place, "protocol": "http" if plain else "https", "auth": auth,
-                          "platform": option.platform or f"linux/{MACHINE}"}
-        access = Access(registry, plain, option.allow_host, option.ca, option.client_cert, option.client_key, option.proxy)
-        return Network(access, option.timeout, end, option.limit)
+        """The connections to the registry; of a copy those to the target too."""
+        option, users = self.option, logins(self.option)
+        of_registry, network = reached(option, end, option.place, users[0], option.http, option.ca, option.client_cert, option.client_key)
+        self.settings |= of_registry | {"platform": option.platform or f"linux/{MACHINE}"}
+        if option.word == "copy":
+            target, other = reached(option, end, option.target, users[1], option.target_http, option.target_ca)
+            self.copy = Copy(option, self.rule, self.settings | self.rule.settings(), target, Sides(network, other, []))
+        return network
 
     def pinned(self, network: Network) -> Pinned:
         """The image's entry of the lock file, which is checked first."""
@@ -113,17 +132,37 @@ class Run:
             end = converse(self.core, self.settings | {"moment": int(time.time())}, exchanges, signatures)
             self.sent = exchanges.sent
             is_expired = "UnauthorizedError" in end.get("report", "") and exchanges.accepted and (is_first or exchanges.kept > 0)
+            if end["frame"] == "pulled" and self.has_blobs and self.settings["frame"] == "documents" and not self.fits():
+                self.settings |= {"frame": "settings", "blobs": self.layout is not None}
+                is_expired = True
             if is_expired:
                 self.core, is_first = Core(), False
+        registry: Registry = self.registry
+        if end["frame"] == "pulled" and self.has_blobs and self.settings["frame"] == "documents" and (refused := self.blobs()):
+            end, registry = refused
         name, signer = self.option.place, signatures.signer(end.get("signature", ""))
         if end["frame"] == "ended":
-            return (end["status"] if end["status"] in ENDS else 4), f"failed {name}: {ENDS.get(end['status'], 'the core ended unexpectedly')}", {}
+            return failed(name, end["status"])
         if end["frame"] == "refused":
-            return 1, Refusals(self.registry.statuses, self.registry.failure, signatures.why).sentence(name, end["report"]), end
+            return 1, Refusals(registry.statuses, registry.failure, signatures.why).sentence(name, end["report"]), end
         if self.layout:
             self.layout.finish(name, end["digest"], exchanges.signatures(end["signature"]))
         done = f"pulled {name} to {self.layout.target}" if self.layout else f"{'checked' if self.option.word == 'check' else 'verified'} {name}"
         return 0, f"{done}: {end['digest']}, signed by {end['signature']}{signer and f' ({signer})'}", end | {"signer": signer}
+
+    def fits(self) -> bool:
+        """Whether the manifest can be a member of a frame; else one core pulls the whole image."""
+        try:
+            self.manifest = parsed(*(body for frame, body in self.sent if frame.get("kind") == "manifest"))
+            return True
+        except ValueError:
+            return False
+
+    def blobs(self) -> Refused | None:
+        """Why the layers or a blob is refused, if one is."""
+        if refused := refused_layer(self.option.place, self.manifest, self.option.type):
+            return refused, self.registry
+        return Blobs({"frame": "blobs", "settings": self.settings, "manifest": self.manifest}, self.registry.beside, self.layout).run()
 
 
 def locked(option: argparse.Namespace, end: float) -> tuple[int, str, Frame]:
@@ -161,25 +200,30 @@ def checked(option: argparse.Namespace) -> tuple[int, str, Frame]:
 
 def admit(option: argparse.Namespace) -> NoReturn:
     """Serves an admission webhook until a signal ends it."""
+    import asyncio  # which takes a while, and only this needs
+
     try:
-        from host.admission import Webhook, serve
+        from host.admission import Deciders, Webhook, serve
     except ImportError as error:
         raise ValueError(f"{error}; apt-get install python3-aiohttp") from None
     policy, (host, _, port) = Policy(option.policy), option.listen.rpartition(":")
-    given = vars(option) | dict.fromkeys(("username", "password_stdin", "http", "client_cert", "client_key"))
 
-    def decide(text: str, end: float) -> tuple[str, str]:
-        if not (rule := policy.for_reference(text)):
-            return "", f"{text} is covered by no rule of {option.policy}"
-        run = Run(argparse.Namespace(**given | {"place": text}), end, rule)
-        try:
-            status, sentence, rest = run.decide()
-        finally:
-            run.core.process.kill()
-        pinned = text if "@" in text else f"{whole(text)}@{rest['digest']}" if status == 0 else ""
-        return (pinned, "") if status == 0 else ("", sentence)
+    def connect(image: str, end: float) -> Network:
+        registry = repository_of(image).partition("/")[0]
+        access = Access(registry, is_loopback(registry) and not option.ca, option.allow_host, option.ca, None, None, option.proxy)
+        return Network(access, option.timeout, end, option.limit)
 
-    asyncio.run(serve(Webhook(decide, option.jobs, option.deadline), host.strip("[]"), int(port), (option.cert, option.private_key), SIGNALS - {signal.SIGALRM}))
+    def settings(images: str, rule: Rule) -> Frame:
+        of_registry, _ = reached(option, 0, f"{images}/x", None, False, option.ca)
+        return {"frame": "settings", "accepted": option.type, "platform": option.platform or f"linux/{MACHINE}", "moment": 0,
+                "blobs": False} | of_registry | rule.settings()
+
+    if len(by_images := dict(policy.rules)) < len(policy.rules):
+        raise ValueError(f"{option.policy} has two rules for the same images")
+    rules = [{"images": images, "settings": settings(images, rule)} for images, rule in policy.rules]
+    deciders = Deciders({"rules": rules}, by_images, connect)
+    asyncio.run(serve(Webhook(deciders.decide, option.jobs, option.deadline), host.strip("[]"), int(port), (option.cert, option.private_key),
+                      SIGNALS - {signal.SIGALRM}))
     raise End(4, "by a signal")
 
 
@@ -219,7 +263,7 @@ def result(option: argparse.Namespace) -> tuple[int, str, Frame]:
                 signal.pthread_sigmask(signal.SIG_UNBLOCK, SIGNALS)
         except (OSError, ValueError) as error:
             raise End(2, str(error)) from None
-        status, sentence, rest = run.decide()
+        status, sentence, rest = run.copy.decide(run.core) if option.word == "copy" else run.decide()
         if status == 0 and run.layout:
             hold()
             run.layout.place()

@@ -1,7 +1,7 @@
 """The conversation with the core: its frames are answered until one says how the pull ended."""
 import json
 import re
-from typing import BinaryIO, Protocol
+from typing import BinaryIO, Callable, Iterable, Protocol
 from urllib.parse import urlsplit
 
 from host.core import PIECE, Core, Frame, framed
@@ -10,13 +10,29 @@ from host.signatures import Signatures
 
 BLOB, RECORDED = re.compile(r"/v2/.+/blobs/(sha\d+:[0-9a-f]+)"), 64 << 20
 
+Sent = list[tuple[Frame, bytes]]  # frames, each with its bytes
+
 
 class Registry(Protocol):
     """What answers requests: the network, a layout, or both."""
-    base: str
     blob: str
 
-    def reply(self, frame: Frame) -> tuple[Frame, bytes]: ...
+    @property
+    def base(self) -> str: ...
+
+    @property
+    def statuses(self) -> dict[str, int]: ...
+
+    @property
+    def failure(self) -> str: ...
+
+    def reply(self, frame: Frame, body: Iterable[bytes] = ()) -> tuple[Frame, bytes]: ...
+
+    def ahead(self) -> None: ...
+
+    def turn(self, side: str) -> None: ...
+
+    def close(self) -> None: ...
 
 
 class Exchanges:
@@ -24,15 +40,16 @@ class Exchanges:
 
     def __init__(self, registry: Registry, layout: Layout | None) -> None:
         self.registry, self.layout, self.digest = registry, layout, ""
-        self.sent: list[tuple[Frame, bytes]] = []  # the documents that the core sent, if they go into no layout
+        self.sent: Sent = []  # the documents that the core sent
+        self.carry: Callable[[], bool] | None = None  # has the blobs of a copy carried, and says whether all were
         self.is_search, self.is_signed, self.is_document = True, False, False
         self.bodies, self.held, self.accepted, self.kept = [bytearray()], 0, False, 0
         self.file: BinaryIO | None = None
         self.download: BinaryIO | None = None
 
-    def reply(self, frame: Frame) -> tuple[Frame, bytes]:
+    def reply(self, frame: Frame, body: Iterable[bytes] = ()) -> tuple[Frame, bytes]:
         if frame["frame"] == "request":
-            return self.request(frame)
+            return self.request(frame, body)
         if self.file:
             return framed(self.file.read(PIECE))
         answer, data = self.registry.reply(frame)
@@ -46,7 +63,7 @@ class Exchanges:
                 self.kept += 1
         return answer, data
 
-    def request(self, frame: Frame) -> tuple[Frame, bytes]:
+    def request(self, frame: Frame, body: Iterable[bytes]) -> tuple[Frame, bytes]:
         if frame["url"].lower().startswith(self.registry.base):  # else a realm, or where something that was requested before is kept
             path = urlsplit(frame["url"]).path
             blob = BLOB.fullmatch(path)
@@ -57,7 +74,7 @@ class Exchanges:
         if self.file:
             return {"frame": "answer", "status": 200, "headers": []}, b""
         self.registry.blob = self.digest if self.is_signed else ""
-        answer, data = self.registry.reply(frame)
+        answer, data = self.registry.reply(frame, body)
         is_good = answer.get("status") == 200
         self.accepted = self.accepted or is_good and any(name.lower() == "authorization" for name, _ in frame["headers"])
         self.bodies += [bytearray()] if self.bodies[-1] else []
@@ -88,23 +105,31 @@ def converse(core: Core, settings: Frame, exchanges: Exchanges, signatures: Sign
     """Answers the core's frames. The one that says how the pull ended, or one named `ended` with the core's status if none does."""
     layout = exchanges.layout
     try:
-        while (frame := core.read())["frame"] not in ("pulled", "refused"):
+        while (frame := core.read())["frame"] not in ("refused", "copied" if exchanges.carry else "pulled"):
             body = core.body(frame)
             match frame["frame"]:
                 case "begin":
                     core.write(settings)
                 case "request" | "more":
-                    core.write(*exchanges.reply(frame))
+                    core.write(*exchanges.reply(frame, body))
+                case "side":
+                    exchanges.registry.turn(frame["side"])
+                case "carry" if exchanges.carry:
+                    if not exchanges.carry():
+                        return frame
+                    core.write({"frame": "carried"})
                 case "verify" | "judge":
                     reply = signatures.reply(frame, b"".join(body))
                     exchanges.searched(bool(reply.get("valid") or reply.get("vouched")))
                     core.write(reply)
-                case "document" | "blob" if layout:
-                    if frame["kind"] == "manifest":
-                        layout.manifest = {"mediaType": frame["media_type"], "digest": frame["digest"], "size": frame["bytes"]}
-                    layout.add(frame["digest"], body)
                 case "document" | "signature":
-                    exchanges.sent.append((frame, b"".join(body)))
+                    exchanges.sent.append((frame, content := b"".join(body)))
+                    if layout and frame["frame"] == "document":
+                        if frame["kind"] == "manifest":
+                            layout.manifest = {"mediaType": frame["media_type"], "digest": frame["digest"], "size": frame["bytes"]}
+                        layout.add(frame["digest"], [content])
+                case "blob" if layout:
+                    layout.add(frame["digest"], body)
             for _ in body:
                 pass
         return frame

@@ -1,4 +1,6 @@
 """The core as a process, and the frames between it and its host: a line of JSON, then as many bytes as the line says."""
+import contextlib
+import fcntl
 import json
 import os
 import subprocess
@@ -7,7 +9,9 @@ from typing import Any, Iterator
 from host.release import program
 
 Frame = dict[str, Any]
-LINE, PIECE = 1 << 24, 1 << 19
+LINE, PIPE = 1 << 24, 1 << 20  # bytes: of a frame's line that the core writes, and of a pipe
+WRITTEN = 1 << 20  # the most bytes of a line that the core reads
+PIECE = PIPE - 4096  # so that a pipe holds a piece with its line
 
 
 def framed(piece: bytes) -> tuple[Frame, bytes]:
@@ -26,6 +30,9 @@ class Core:
         self.process = subprocess.Popen([path], stdin=pipe, stdout=pipe, stderr=subprocess.DEVNULL, start_new_session=True)
         assert self.process.stdin and self.process.stdout
         self.input, self.output = self.process.stdin, self.process.stdout
+        for stream in (self.input, self.output):
+            with contextlib.suppress(OSError):  # of a user who has many pipes
+                fcntl.fcntl(stream, fcntl.F_SETPIPE_SZ, PIPE)
 
     def read(self) -> Frame:
         """The next frame; ValueError if the core ended."""
@@ -43,8 +50,17 @@ class Core:
             yield piece
 
     def write(self, frame: Frame, body: bytes = b"") -> None:
-        self.input.write(json.dumps(frame).encode() + b"\n" + body)
+        self.input.write(json.dumps(frame).encode() + b"\n")
+        self.input.write(body)
         self.input.flush()
+
+    def close(self) -> None:
+        """Ends it, whatever it does."""
+        self.process.kill()
+        for stream in (self.input, self.output):
+            with contextlib.suppress(OSError, ValueError):
+                stream.close()
+        self.process.wait()
 
     def end(self) -> int:
         """The status of a core that has ended, or ends since its host is gone."""

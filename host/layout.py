@@ -1,6 +1,8 @@
 """Images on disk: written beside their place and moved there once they are whole; and read again, in place of a registry."""
 import contextlib
+import copy
 import fcntl
+import glob
 import hashlib
 import io
 import itertools
@@ -8,6 +10,7 @@ import json
 import os
 import re
 import shutil
+import stat
 import tarfile
 from pathlib import Path
 from typing import Any, BinaryIO, Iterable
@@ -49,8 +52,27 @@ def read_index(folder: Path) -> dict[str, Any]:
         raise ValueError(f"{folder} is not an OCI image layout ({error})") from None
 
 
+def is_ours(folder: Path) -> bool:
+    """Whether it is a folder that nobody else can write to."""
+    found = folder.lstat()
+    return stat.S_ISDIR(found.st_mode) and found.st_uid == os.geteuid() and not found.st_mode & 0o022
+
+
+def lock(folder: Path) -> bool:
+    """Locks a folder until the command ends, unless another one has it."""
+    number = os.open(folder, os.O_RDONLY)
+    with contextlib.suppress(BlockingIOError):
+        fcntl.flock(number, fcntl.LOCK_EX | fcntl.LOCK_NB)
+        return True
+    os.close(number)
+    return False
+
+
 class Layout:
-    """An image that is being written to `work`, a hidden folder beside its place, or in it (`home`) if that is a folder already."""
+    """An image that is being written to `work`, a hidden folder beside its place, or in it (`home`) if that is a folder already.
+
+    A folder that a killed run left is gone on with: what it has is read again, and held to its digests.
+    """
 
     def __init__(self, target: Path, form: str, tag: str | None) -> None:
         self.target, self.form, self.tag, self.manifest, self.names = target, form, tag, dict[str, Any](), set[str]()
@@ -65,9 +87,16 @@ class Layout:
             raise OSError(f"{target} exists, and is not replaced; choose another --out")
         parent = self.home or target.absolute().parent
         self.made = [path for path in (parent, *parent.parents) if not path.exists()]
-        self.work = parent / f".{'' if self.home else target.name}-{os.urandom(6).hex()}"
+        name = f".{'' if self.home else target.name}-"
+        left = [path for path in parent.glob(f"{glob.escape(name)}{'[0-9a-f]' * 12}") if is_ours(path)] if parent.is_dir() else []
+        self.work = next(filter(lock, left), None) or parent / f"{name}{os.urandom(6).hex()}"
         try:
-            self.work.mkdir(parents=True)
+            if self.work not in left:
+                self.work.mkdir(parents=True)
+                lock(self.work)
+            for path in self.work.iterdir():
+                if path.is_file():  # which is written anew
+                    path.unlink()
         except OSError:
             self.close()
             raise
@@ -92,6 +121,20 @@ class Layout:
         """A file to write. A blob may be broken off: whether it has its digest `find` sees, and it stays only if it is added."""
         (self.work / name).parent.mkdir(parents=True, exist_ok=True)
         return open(self.work / name, "wb")
+
+    def hidden(self, digest: str, mark: str) -> Path:
+        """Where a blob is written until the core has said that it has its digest; the mark is of the core that it is for."""
+        path = self.work / blob_name(digest)
+        path.parent.mkdir(parents=True, exist_ok=True)
+        return path.with_name(f".{path.name}-{mark}")
+
+    def keep(self, digest: str, mark: str) -> None:
+        """Gives a blob its name, since the core has said so of its bytes."""
+        hidden, name = self.hidden(digest, mark), blob_name(digest)
+        if hidden.exists():
+            sync(hidden)
+            hidden.rename(self.work / name)
+        self.names.add(name)
 
     def put(self, name: str, pieces: Iterable[bytes]) -> None:
         with self.create(name) as file:
@@ -160,7 +203,19 @@ class Stored:
         self.statuses, self.failure, self.base, self.blob = dict[str, int](), "", "", ""
         self.body: BinaryIO = io.BytesIO()
 
-    def reply(self, frame: Frame) -> tuple[Frame, bytes]:
+    def beside(self) -> "Stored":
+        """The same, for another core."""
+        made = copy.copy(self)
+        made.body = io.BytesIO()
+        return made
+
+    def ahead(self) -> None: ...
+
+    def close(self) -> None: ...
+
+    def turn(self, side: str) -> None: ...
+
+    def reply(self, frame: Frame, body: Iterable[bytes] = ()) -> tuple[Frame, bytes]:
         if frame["frame"] == "more":
             return framed(self.body.read(PIECE))
         *_, kind, name = frame["url"].split("/")

@@ -2,12 +2,13 @@
 import base64
 import contextlib
 import email.utils
+import json
 import math
 import re
 import signal
 import socket
 import time
-from typing import Any, Callable, Iterator
+from typing import Any, Callable, Iterable, Iterator
 
 import pycurl
 
@@ -17,11 +18,12 @@ from host.terminal import progress
 
 SLOWEST = 1000  # bytes per second
 FIELDS, TRIES, LONGEST_WAIT = 1000, 5, 60  # header fields, requests to a busy registry, seconds between them
+REMEMBERED, HELD = 60, 8 << 20  # seconds for which an answer of `/v2/` or a token holds; bytes of a request's body that can be sent again
 REALM = re.compile(r'\brealm *= *"?(https?://[^?",\s]+)', re.IGNORECASE)
 STATUS = re.compile(rb"HTTP/1\.[01] (\d{3})\s")
 TRANSIENT = {pycurl.E_COULDNT_RESOLVE_HOST, pycurl.E_COULDNT_CONNECT, pycurl.E_SSL_CONNECT_ERROR,
              pycurl.E_SEND_ERROR, pycurl.E_RECV_ERROR, pycurl.E_GOT_NOTHING}
-SUPPRESS_CONNECT_HEADERS = 265  # as curl.h has it; pycurl does not name it
+SUPPRESS_CONNECT_HEADERS, UPLOAD_BUFFERSIZE = 265, 280  # as curl.h has them; pycurl does not name them
 SIGNALS = {signal.SIGINT, signal.SIGTERM, signal.SIGHUP, signal.SIGALRM}
 
 
@@ -83,6 +85,12 @@ class Answer:
         self.body += data
         return None
 
+    def again(self) -> "Answer":
+        """The same, to be handed on once more."""
+        made = Answer(self.limit)
+        made.status, made.fields, made.body, made.has_head, made.is_over = self.status, self.fields, self.body[:], True, True
+        return made
+
     def challenges(self) -> bytes:
         """All challenges as one list, whatever their lines are (RFC 9110, 5.3), since the core reads the first line."""
         return b", ".join(value for name, value in self.fields if name == "www-authenticate")
@@ -103,6 +111,49 @@ class Answer:
         return math.inf
 
 
+class Upload:
+    """The body of a request. A short one is held, so that it can be sent again; a long one is handed on as it comes."""
+
+    def __init__(self, size: int, pieces: Iterable[bytes]) -> None:
+        self.size, self.raised, self.left = size, False, memoryview(b"")
+        self.held = [b"".join(pieces)] if size <= HELD else []
+        self.pieces = iter(self.held or pieces)
+
+    def again(self) -> bool:
+        """Begins anew, if it can."""
+        self.pieces, self.left = iter(self.held), memoryview(b"")
+        return bool(self.held)
+
+    def seek(self, offset: int, _: int) -> int:
+        """For libcurl, if a kept connection was closed before the request arrived."""
+        return int(pycurl.SEEKFUNC_OK if offset == 0 and self.again() else pycurl.SEEKFUNC_CANTSEEK)
+
+    def read(self, count: int) -> bytes | int:
+        try:
+            self.left = self.left or memoryview(next(self.pieces, b""))
+        except (OSError, ValueError):  # the core has ended
+            return int(pycurl.READFUNC_ABORT)
+        part, self.left = self.left[:count], self.left[count:]
+        return bytes(part)
+
+
+class Remembered:
+    """What `/v2/` and token services answered to the cores of one run, in memory: for a minute, within a token's life, and until an answer is 401."""
+
+    def __init__(self) -> None:
+        self.answers = dict[tuple[str, ...], tuple[float, Answer]]()
+
+    def find(self, key: tuple[str, ...]) -> Answer | None:
+        until, kept = self.answers.get(key, (0, Answer(0)))
+        return kept.again() if time.monotonic() < until else None
+
+    def keep(self, key: tuple[str, ...], answer: Answer, is_token: bool) -> None:
+        """Keeps an answer that has arrived whole. Without `expires_in` a token lives for a minute."""
+        with contextlib.suppress(ValueError, TypeError, AttributeError):
+            life = json.loads(answer.body).get("expires_in", REMEMBERED) if is_token else REMEMBERED
+            self.answers[key] = time.monotonic() + min(REMEMBERED, life), answer.again()
+
+
 class Network:
     """The connections of a pull. `statuses` has the last one of each URL (as `shown`), `failure` why a request failed last.
 
@@ -114,12 +165,25 @@ class Network:
         self.access, self.base, self.blob = access, access.base, ""
         self.timeout, self.end, self.document, self.headers = timeout, end, document, headers
         self.statuses, self.failure, self.url, self.realms = dict[str, int](), "", "", set[Place]()
+        self.remembered, self.late = Remembered(), ""
         self.multi, self.answer = pycurl.CurlMulti(), Answer(0)
         self.curl: pycurl.Curl | None = None
         for path in filter(None, (access.authority, access.certificate, access.private_key)):
             path.read_bytes()  # so that a file that is missing is refused before any request
 
-    def options(self, frame: Frame, place: Place, answer: Answer) -> dict[int, Any]:
+    def beside(self) -> "Network":
+        """Other connections to the same registry, by the same rules. What is remembered is for all of them."""
+        made = Network(self.access, self.timeout, self.end, self.document, self.headers)
+        made.statuses, made.remembered = self.statuses, self.remembered
+        return made
+
+    def turn(self, side: str) -> None: ...
+
+    def close(self) -> None:
+        """Lets what is under way in another thread end soon."""
+        self.end = -math.inf
+
+    def options(self, frame: Frame, place: Place, answer: Answer, upload: Upload | None) -> dict[int, Any]:
         """The options of libcurl for a request."""
         access, proxy = self.access, self.access.proxy_to(place)
 
@@ -129,24 +193,27 @@ class Network:
                 raise ValueError(f"it leads to {address.addr[0]}, which is not a public address; name its host by --allow-host if you trust it")
             return socket.socket(address.family, address.socktype, address.protocol)
 
+        body = {pycurl.UPLOAD: 1, pycurl.INFILESIZE_LARGE: upload.size, UPLOAD_BUFFERSIZE: PIECE // 2,
+                pycurl.READFUNCTION: upload.read, pycurl.SEEKFUNCTION: upload.seek} if upload else {}
+        headers = [f"{name}: {value}" for name, value in frame["headers"] if not (upload and name.lower() == "content-length")]
         files = ((pycurl.CAINFO, access.authority), (pycurl.SSLCERT, access.certificate), (pycurl.SSLKEY, access.private_key))
         return {
             pycurl.URL: frame["url"], pycurl.PATH_AS_IS: 1,
             pycurl.CUSTOMREQUEST: frame["method"], pycurl.NOBODY: frame["method"] == "HEAD",
-            pycurl.HTTPHEADER: ["Accept:", *(f"{name}: {value}" for name, value in frame["headers"])], pycurl.USERAGENT: "",
+            pycurl.HTTPHEADER: ["Accept:", "Expect:", *headers], pycurl.USERAGENT: "",
             pycurl.HTTP_VERSION: pycurl.CURL_HTTP_VERSION_1_1, pycurl.SSLVERSION: pycurl.SSLVERSION_TLSv1_2,
             pycurl.HEADERFUNCTION: answer.guarded(answer.take_line), pycurl.WRITEFUNCTION: answer.guarded(answer.take_body),
             pycurl.OPENSOCKETFUNCTION: answer.guarded(connect), pycurl.BUFFERSIZE: PIECE // 2, pycurl.NOSIGNAL: 1,
             pycurl.PROXY: proxy, pycurl.NOPROXY: "", SUPPRESS_CONNECT_HEADERS: 1,
             pycurl.CONNECTTIMEOUT_MS: int(self.timeout * 1000),
             pycurl.LOW_SPEED_LIMIT: SLOWEST, pycurl.LOW_SPEED_TIME: round(self.timeout) or 1,
-        } | {option: str(path) for option, path in files if path}
+        } | body | {option: str(path) for option, path in files if path}
 
-    def ask(self, frame: Frame, place: Place, again: bool) -> None:
+    def ask(self, frame: Frame, place: Place, again: bool, upload: Upload | None = None) -> None:
         """Sends a request, and receives what comes first of its answer; `again` if the connection fails before it."""
         self.leave()
         self.curl, self.answer = pycurl.Curl(), Answer(self.headers)
-        for option, value in self.options(frame, place, self.answer).items():
+        for option, value in self.options(frame, place, self.answer, upload).items():
             self.curl.setopt(option, value)
         self.multi.add_handle(self.curl)
         try:
@@ -177,40 +244,75 @@ class Network:
             if not done and answer.size + len(answer.body) == before and self.multi.select(0.05) < 0:
                 time.sleep(0.002)  # no socket yet: the name is being resolved
 
+    def wait(self, seconds: float) -> None:
+        """Waits, but not longer than the command may run."""
+        until = time.monotonic() + seconds
+        while (now := time.monotonic()) < until:
+            if now > self.end:
+                raise TimeoutError("the time of the command is over")
+            time.sleep(min(0.1, until - now))
+
     def leave(self) -> None:
         """Ends the last request."""
+        self.late = ""
         if self.curl:
             self.multi.remove_handle(self.curl)
             self.curl.close()
             self.curl = None
 
-    def request(self, frame: Frame) -> tuple[Frame, bytes]:
-        """The answer to a request, which is sent once more as often as a busy registry asks for it in time."""
+    def request(self, frame: Frame, body: Iterable[bytes]) -> tuple[Frame, bytes]:
+        """The answer to a request, which is sent once more as often as a busy registry asks for it in time; or what is remembered of it."""
         self.url, self.size, self.began = frame["url"], 0, time.monotonic()
-        place = place_of(self.url)
+        place, method = place_of(self.url), frame["method"]
         self.access.check(place, frame["headers"], self.realms)
         self.is_token, self.realms = place in self.realms, set()
-        for left in reversed(range(TRIES)):
-            self.ask(frame, place, frame["method"] in ("GET", "HEAD"))
-            seconds = self.answer.retry_after()
-            if not left or seconds > min(LONGEST_WAIT, self.end - time.monotonic()):
-                break
-            progress.show(f"{place.host} is busy ({self.answer.status}): waiting {seconds:.0f} s")
-            time.sleep(seconds)
-        self.statuses[shown(self.url)] = self.answer.status
-        if place.path == "/v2/":
+        is_first = place == self.access.own
+        key = method, self.url, *(value for name, value in frame["headers"] if name.lower() == "authorization")
+        kept = self.remembered.find(key) if is_first or self.is_token else None
+        if kept:
+            self.leave()
+            self.answer = kept
+        else:
+            self.send(frame, place, Upload(frame["bytes"], body) if frame.get("bytes") else None)
+            status = self.statuses[shown(self.url)] = self.answer.status
+            if method == "GET" and self.answer.is_over and (is_first and status in (200, 401) or self.is_token and status == 200):
+                self.remembered.keep(key, self.answer, self.is_token)
+            elif status == 401:
+                self.remembered.answers.clear()
+        if is_first:
             named = REALM.findall(self.answer.challenges().decode("latin-1"))
             self.realms = {place_of(realm) for realm in named if URL.fullmatch(realm)}
         return {"frame": "answer", "status": self.answer.status, "headers": self.answer.headers()}, b""
 
-    def more(self) -> tuple[Frame, bytes]:
-        """The next piece of the body; all but the last are full."""
-        if not self.curl:
-            raise ValueError("the answer was truncated")
+    def send(self, frame: Frame, place: Place, upload: Upload | None) -> None:
+        for left in reversed(range(TRIES)):
+            self.ask(frame, place, frame["method"] in ("GET", "HEAD"), upload)
+            seconds = self.answer.retry_after()
+            if not left or seconds > min(LONGEST_WAIT, self.end - time.monotonic()) or upload and not upload.again():
+                break
+            progress.show(f"{place.host} is busy ({self.answer.status}): waiting {seconds:.0f} s")
+            self.wait(seconds)
+
+    def ahead(self) -> None:
+        """Receives the next piece of a body before it is asked for."""
+        if self.curl and not self.answer.body and not self.late:
+            try:
+                self.resume(self.curl)
+            except (OSError, ValueError, pycurl.error) as error:
+                self.late = str(error.args[-1])
+
+    def resume(self, curl: pycurl.Curl) -> None:
         if self.answer.is_full and not self.answer.body:
             with uninterrupted():
-                self.curl.pause(pycurl.PAUSE_CONT)
+                curl.pause(pycurl.PAUSE_CONT)
         self.receive()
+
+    def more(self) -> tuple[Frame, bytes]:
+        """The next piece of the body; all but the last are full."""
+        if self.late or not (self.curl or self.answer.is_over):
+            raise ValueError(self.late or "the answer was truncated")
+        if self.curl:
+            self.resume(self.curl)
         piece = bytes(self.answer.body)
         self.answer.body.clear()
         self.size += len(piece)
@@ -224,11 +326,12 @@ class Network:
             progress.end()
         return framed(piece)
 
-    def reply(self, frame: Frame) -> tuple[Frame, bytes]:
+    def reply(self, frame: Frame, body: Iterable[bytes] = ()) -> tuple[Frame, bytes]:
         """The answer to a request, or the next piece of its body; `failed` if it is not sent, not answered, or truncated."""
         try:
-            return self.request(frame) if frame["frame"] == "request" else self.more()
+            return self.request(frame, body) if frame["frame"] == "request" else self.more()
         except (OSError, ValueError, pycurl.error) as error:
             self.failure = f"{shown(self.url)}: {error.args[-1]}"
             self.leave()
+            self.answer = Answer(0)
             return {"frame": "failed"}, b""

@@ -51,6 +51,8 @@ def parser() -> argparse.ArgumentParser:
                                epilog=f"{of['examples']}\n{STATUSES}", formatter_class=argparse.RawDescriptionHelpFormatter)
         if of["place"]:
             one.add_argument("place", metavar=of["place"], **({"nargs": of["nargs"]} if "nargs" in of else {}))
+        if "target" in of:
+            one.add_argument("target", metavar=of["target"])
         for title in of["groups"]:
             group = one.add_argument_group(title)
             for names, option in table["options"][title].items():

@@ -7,8 +7,17 @@ STATUSES = "exit status: 0 success, 1 refused, 2 wrong usage, 3 invalid referenc
 OUTCOMES = {1: "refused", 2: "usage", 3: "reference", 4: "stopped", 5: "unwritten", 6: "memory"}
 
 
+ENDS = {3: "the reference is invalid, or --platform is not OS/ARCH; write registry/name:tag", 5: "the core could not write",
+        6: "out of memory; run it with more"}
+
+
 class End(BaseException):
     """With which status the command ends instead of going on, and why."""
+
+
+def failed(name: str, status: int) -> tuple[int, str, dict[str, Any]]:
+    """How the command ends if the core ended with this status before it said how the pull ended."""
+    return (status if status in ENDS else 4), f"failed {name}: {ENDS.get(status, 'the core ended unexpectedly')}", {}
 
 
 def printable(text: str) -> str:

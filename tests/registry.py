@@ -177,6 +177,16 @@ class Registry:
         return self.folder / "files/docker/registry/v2/blobs/sha256" / digest[7:9] / digest[7:] / "data"
 
 
+def chunked_body(stream):
+    """A body in chunks (RFC 9112, 7.1)."""
+    parts = []
+    while size := int(stream.readline().partition(b";")[0], 16):
+        parts.append(stream.read(size))
+        stream.readline()
+    stream.readline()
+    return b"".join(parts)
+
+
 class Door(http.server.BaseHTTPRequestHandler):
     """Hands requests on to a registry, but for those that `ways` answers itself, by a part of the path."""
     protocol_version = "HTTP/1.1"
@@ -188,11 +198,16 @@ class Door(http.server.BaseHTTPRequestHandler):
                 return way(self)
         return self.hand_on()
 
-    do_HEAD = do_GET
+    do_HEAD = do_POST = do_PUT = do_PATCH = do_GET
 
-    def hand_on(self, path=None, cut=None):
+    def hand_on(self, path=None, cut=None, without=("host",)):
         connection = http.client.HTTPConnection(self.behind, timeout=30)
-        connection.request(self.command, path or self.path, headers={name: value for name, value in self.headers.items() if name.lower() != "host"})
+        body = self.rfile.read(int(self.headers.get("content-length") or 0))
+        if self.headers.get("transfer-encoding") == "chunked":
+            body = chunked_body(self.rfile)
+        names = {name.lower() for name in self.headers} - {*without, "transfer-encoding", "content-length"}
+        sent = {name: ", ".join(self.headers.get_all(name)) for name in names}
+        connection.request(self.command, path or self.path, body or None, sent | ({} if body else {"Content-Length": "0"} if self.command not in ("GET", "HEAD") else {}))
         answer = connection.getresponse()
         content = answer.read()
         connection.close()
@@ -215,9 +230,9 @@ class Door(http.server.BaseHTTPRequestHandler):
 
 
 @contextlib.contextmanager
-def door(ways, behind="", tls=None):
+def door(ways, behind="", tls=None, port=0):
     handler = type("Before", (Door,), {"ways": ways, "behind": behind})
-    server = http.server.ThreadingHTTPServer(("127.0.0.1", 0), handler)
+    server = http.server.ThreadingHTTPServer(("127.0.0.1", port), handler)
     server.handle_error = lambda *_: None
     if tls:
         server.socket = tls.wrap_socket(server.socket, server_side=True)

@@ -2,19 +2,22 @@
 """A core that believes almost everything: it requests an image and its signature, and hands it on. For tests of the host alone.
 
 FAKE says how it misbehaves: `ends N` exits with a status after the settings, `garbage` writes what is not a frame, `frame JSON` writes this one,
-`refused TEXT` refuses with this report, `settings` with a report of the settings, `early` exits with the half of a blob written.
+`blobs N` exits so when it gets a range of blobs, `refused TEXT` refuses with this report, `settings` with a report of the settings, `early` exits with the half of a
+document written.
 """
 import base64
 import contextlib
 import hashlib
 import json
 import os
+import re
 import sys
 
 ACCEPT = "application/vnd.docker.distribution.manifest.v2+json, application/vnd.docker.distribution.manifest.list.v2+json, " \
     "application/vnd.oci.image.manifest.v1+json, application/vnd.oci.image.index.v1+json"
 INPUT, OUTPUT = sys.stdin.buffer, sys.stdout.buffer
-LINE = 1 << 20
+LINE, CHUNK = 1 << 20, 4 << 20
+OCI = "application/vnd.oci.image.manifest.v1+json"
 
 
 class Refused(Exception):
@@ -104,7 +107,16 @@ class Pull:
         with contextlib.suppress(Refused):
             self.get(f"{self.base}/referrers/{digest}")
 
-    def run(self):
+    def decided(self):
+        """The digest, if there is a signature."""
+        self.get(f"{self.base}/manifests/{self.name}", "HEAD")
+        document = self.get(f"{self.base}/manifests/{self.name}")
+        digest = "sha256:" + hashlib.sha256(document).hexdigest()
+        if self.signature(digest) == digest:
+            raise Refused(f'refused Unsatisfied "{digest}"\n')
+        return digest
+
+    def run(self, ends=True):
         self.get(f"{self.base}/manifests/{self.name}", "HEAD")
         document = self.get(f"{self.base}/manifests/{self.name}")
         manifest = json.loads(document)
@@ -115,17 +127,229 @@ class Pull:
         is_whole = self.settings["frame"] == "settings"
         named = [("config", manifest["config"]), *(("layer", layer) for layer in manifest["layers"])]
         blobs = [(kind, blob, self.blob(blob)) for kind, blob in named if is_whole]
-        write({"frame": "document", "kind": "manifest", "media_type": manifest["mediaType"], "digest": digest, "bytes": len(document)}, document)
-        if not is_whole:
-            layer, payload = self.layer
-            write({"frame": "signature", "kind": "payload", "digest": layer["digest"], "annotations": layer["annotations"], "bytes": len(payload)}, payload)
+        layer, payload = self.layer
+        sent = [({"frame": "document", "kind": "manifest", "media_type": manifest["mediaType"], "digest": digest, "bytes": len(document)}, document),
+                ({"frame": "signature", "kind": "payload", "digest": layer["digest"], "annotations": layer["annotations"], "bytes": len(payload)}, payload)]
+        for frame, content in sent[:1] if is_whole else sent:
+            if os.environ.get("FAKE") == "early":
+                write(frame, content[: len(content) // 2])
+                sys.exit(0)
+            write(frame, content)
+        if not ends:
+            return sent
         for kind, blob, content in blobs if self.settings.get("blobs") else ():
             head = {"frame": "blob", "kind": kind, "media_type": blob["mediaType"], "digest": blob["digest"], "bytes": len(content)}
-            if os.environ.get("FAKE") == "early":
-                write(head, content[: len(content) // 2])
-                sys.exit(0)
             write(head, content)
         write({"frame": "pulled", "digest": digest, "manifest": digest, "signature": signature})
+
+
+class Blobs(Pull):
+    """The blobs of a range, one after another."""
+
+    def __init__(self, given):
+        super().__init__(given["settings"])
+        manifest = given["manifest"]
+        self.range, self.stood = [manifest["config"], *manifest["layers"]][given["first"]:given["end"]], []
+
+    def get(self, url, method="GET", redirects=3):
+        try:
+            return super().get(url, method, redirects)
+        except Refused as refused:  # whose print is that of an error of the registry alone
+            raise Refused(re.sub("Registry\\w+Error \"[^\"]*\" ", "", str(refused))) from None
+
+    def authorize(self):
+        """The token step: a realm is asked for a token."""
+        answer, _ = answered({"frame": "request", "method": "GET", "url": f"{self.base.partition('/v2/')[0]}/v2/", "headers": self.headers[:1]})
+        challenge = {name.lower(): value for name, value in answer.get("headers", [])}.get("www-authenticate", "")
+        named = dict(re.findall('(\\w+)="([^"]*)"', challenge))
+        if challenge.startswith("Bearer") and "realm" in named:
+            self.body()
+            token = json.loads(self.get(f"{named['realm']}?service={named.get('service', '')}&scope=repository:{self.repository}:pull"))["token"]
+            self.headers = [self.headers[0], ["authorization", f"Bearer {token}"]]
+
+    def sized(self, blob):
+        content = self.get(f"{self.base}/blobs/{blob['digest']}")
+        if len(content) > blob["size"]:
+            raise Refused("refused BodyTooLong\n")
+        if "sha256:" + hashlib.sha256(content).hexdigest() != blob["digest"]:
+            raise Refused(f'refused DigestError VerificationError "{blob["digest"]}" "sha256:other"\n')
+        return content
+
+    def run(self):
+        try:
+            self.authorize()
+            for blob in self.range:
+                self.sized(blob)
+                self.stood.append(blob["digest"])
+        finally:
+            write({"frame": "stood", "digests": self.stood})
+
+
+class Target:
+    """Where a copy goes."""
+
+    def __init__(self, given):
+        registry, _, rest = given["reference"].partition("/")
+        self.reference, (self.repository, _, self.tag), self.headers = given["reference"], rest.partition(":"), [["user-agent", "fake"]]
+        self.origin = f"{given['protocol']}://{registry}"
+        self.base = f"{self.origin}/v2/{self.repository}"
+        if given["auth"] != "anonymous":
+            self.headers.append(["authorization", "Basic " + base64.b64encode(":".join(given["auth"]["basic"]).encode()).decode()])
+        self.is_authorized = False
+
+    def authorize(self):
+        """The token step: a realm is asked for a token."""
+        self.is_authorized = True
+        answer, _ = answered({"frame": "request", "method": "GET", "url": f"{self.origin}/v2/", "headers": self.headers[:1]})
+        challenge = {name.lower(): value for name, value in answer.get("headers", [])}.get("www-authenticate", "")
+        named = dict(re.findall('(\\w+)="([^"]*)"', challenge))
+        if challenge.startswith("Bearer") and "realm" in named:
+            self.ask("GET", f"{named['realm']}?service={named.get('service', '')}&scope=repository:{self.repository}:pull,push")
+            token = json.loads(answered({"frame": "more"})[1])["token"]
+            self.headers = [self.headers[0], ["authorization", f"Bearer {token}"]]
+
+    def ask(self, method, url, body=b"", headers=(), wanted=(200, 201, 202)):
+        """The headers of the answer, or nothing if it is 404."""
+        if not self.is_authorized:
+            self.authorize()
+        head = {"frame": "request", "method": method, "url": url, "headers": [*self.headers, *headers]} | ({"bytes": len(body)} if body else {})
+        answer, _ = answered(head, body)
+        if answer["frame"] == "failed":
+            raise Refused("refused TransportFault\n")
+        if answer["status"] == 401:
+            raise Refused(f'refused UnauthorizedError "{url}"\n')
+        if answer["status"] not in (*wanted, 404):
+            raise Refused(f'refused RegistryError 1 "{url}"\n')
+        return {name.lower(): value for name, value in answer["headers"]} if answer["status"] != 404 else None
+
+    def has(self, digest):
+        return self.ask("HEAD", f"{self.base}/blobs/{digest}") is not None
+
+    def location(self, headers):
+        return headers["location"] if "://" in headers["location"] else self.origin + headers["location"]
+
+    def push(self, content):
+        digest = "sha256:" + hashlib.sha256(content).hexdigest()
+        at = self.location(self.ask("POST", f"{self.base}/blobs/uploads/", headers=[["content-length", "0"]]))
+        for start in range(0, len(content), CHUNK):
+            part = content[start:start + CHUNK]
+            kind = [["content-type", "application/octet-stream"], ["content-range", f"{start}-{start + len(part) - 1}"], ["content-length", str(len(part))]]
+            at = self.location(self.ask("PATCH", at, part, kind))
+        self.ask("PUT", f"{at}{'&' if '?' in at else '?'}digest={digest}", headers=[["content-length", "0"]])
+        return digest
+
+    def put(self, name, content, kind):
+        if self.ask("PUT", f"{self.base}/manifests/{name}", content, [["content-type", kind]]) is None:
+            raise Refused(f'refused RegistryError 1 "{self.base}/manifests/{name}"\n')
+        return "sha256:" + hashlib.sha256(content).hexdigest()
+
+
+class Copy:
+    """A copy of an image with its signature, whose blobs the host has carried."""
+
+    def __init__(self, given):
+        self.given, self.target = given, Target(given["target"])
+
+    def decide(self):
+        """The frames of the documents and of the signature layer, each with its bytes; they are sent."""
+        return Pull(self.given["settings"]).run(False)
+
+    def run(self):
+        documents = {frame["kind"] if frame["frame"] == "document" else "signature": (frame, content) for frame, content in self.decide()}
+        manifest, (layer, payload) = documents["manifest"], documents["signature"]
+        first = documents.get("index", manifest)
+        self.target.tag = self.target.tag or "latest"
+        write({"frame": "pulled", "digest": first[0]["digest"], "manifest": manifest[0]["digest"], "signature": layer["digest"]})
+        write({"frame": "side", "side": "target"})
+        assert answered({"frame": "carry"})[0] == {"frame": "carried"}
+        named = json.loads(manifest[1])
+        for digest in dict.fromkeys(blob["digest"] for blob in (*named["layers"], named["config"])):
+            if not self.target.has(digest):
+                raise Refused(f'refused Missing "{digest}"\n')
+        pushed = []
+        if first is not manifest or not self.given["tag"]:
+            pushed.append(self.target.put(manifest[0]["digest"], manifest[1], manifest[0]["media_type"]))
+        if self.given["tag"]:
+            pushed += [self.target.push(payload), self.target.push(b"{}"), self.target.put(self.target.tag, first[1], first[0]["media_type"]), self.sign(first, layer, payload)]
+        write({"frame": "copied", "url": f"{self.target.base}/manifests/{first[0]['digest']}", "pushed": pushed})
+
+    def sign(self, first, layer, payload):
+        digest, is_bundle, kind = first[0]["digest"], layer["kind"] == "bundle", "application/vnd.dev.sigstore.bundle.v0.3+json"
+        more = {"artifactType": kind, "subject": {"mediaType": first[0]["media_type"], "digest": digest, "size": len(first[1])}} if is_bundle else {}
+        content = json.dumps({"schemaVersion": 2, "mediaType": OCI, "layers": [
+            {"mediaType": kind if is_bundle else "application/vnd.dev.cosign.simplesigning.v1+json", "digest": layer["digest"], "size": len(payload), "annotations": layer["annotations"]}],
+            "config": {"mediaType": "application/vnd.oci.image.config.v1+json", "digest": "sha256:" + hashlib.sha256(b"{}").hexdigest(), "size": 2}} | more).encode()
+        name = "sha256:" + hashlib.sha256(content).hexdigest() if is_bundle else digest.replace(":", "-") + ".sig"
+        return self.target.put(name, content, OCI)
+
+
+class Lock:
+    """A lock holds if a key has signed each of its entries."""
+
+    def __init__(self, given):
+        self.keys, self.entries = given["settings"]["keys"], json.loads(given["lock"])["entries"]
+
+    def run(self):
+        fails = [entry["image"] for entry in self.entries if not any(self.signed(key, entry["signature"]) for key in self.keys)]
+        write({"frame": "lock"} | ({"verdict": "fails", "image": fails[0]} if fails else {"verdict": "holds"}))
+        if fails:
+            sys.exit(1)
+
+    def signed(self, key, signature):
+        content, by = signature["content"].encode(), signature["annotations"].get("dev.cosignproject.cosign/signature")
+        return by and answered({"frame": "verify", "key": key, "signature": by, "bytes": len(content)}, content)[0]["valid"]
+
+
+def words():
+    """By the first frame."""
+    return {"settings": Pull, "documents": Pull, "blobs": Blobs, "copy": Copy, "lockcheck": Lock}
+
+
+class Reviews:
+    """Admission reviews under the rules of the frame `admit`, as the core serves them."""
+
+    def __init__(self, rules):
+        self.rules = rules
+
+    def verdict(self, image, moment):
+        """The digest of an image that is allowed, or why it is denied."""
+        place = image.partition("@")[0]
+        place = place[: place.rindex(":")] if ":" in place.rpartition("/")[2] else place
+        rule = next((rule for rule in self.rules if f"{place}/".startswith(f"{rule['images']}/")), None)
+        if not rule:
+            return "", "NoRule"
+        write({"frame": "image", "image": image, "rule": rule["images"]})
+        try:
+            return Pull(rule["settings"] | {"reference": image, "moment": moment}).decided(), ""
+        except Refused as refused:
+            return "", str(refused).split("\n")[0].partition(" ")[2]
+
+    def response(self, frame):
+        try:
+            review = json.loads(frame["review"])
+            assert (review["apiVersion"], review["kind"]) == ("admission.k8s.io/v1", "AdmissionReview")
+            uid, spec, images = review["request"]["uid"], review["request"]["object"]["spec"], []
+            for member in ("initContainers", "containers", "ephemeralContainers"):
+                images += [(one["name"], one["image"], f"/spec/{member}/{place}/image") for place, one in enumerate(spec.get(member, []))]
+            images += [(one["name"], one["image"]["reference"], f"/spec/volumes/{place}/image/reference")
+                       for place, one in enumerate(spec.get("volumes", [])) if "image" in one]
+            assert spec["containers"] and all(isinstance(text, str) for text in [uid, *(text for _, text, _ in images)])
+        except (ValueError, LookupError, TypeError, AttributeError, AssertionError, RecursionError):
+            return {"frame": "unreadable"}
+        verdicts = [self.verdict(image, frame["moment"]) for _, image, _ in images]
+        said = {"allowed": not any(why for _, why in verdicts), "uid": uid}
+        patch = [{"op": "replace", "path": place, "value": f"{image}@{digest}"} for (_, image, place), (digest, _) in zip(images, verdicts) if "@" not in image]
+        if not said["allowed"]:
+            said["status"] = {"message": "; ".join(f"{name}: {why}" for (name, _, _), (_, why) in zip(images, verdicts) if why)}
+        elif frame["mutate"] and patch:
+            said |= {"patch": base64.b64encode(json.dumps(patch).encode()).decode(), "patchType": "JSONPatch"}
+        return {"frame": "response", "response": json.dumps({"apiVersion": "admission.k8s.io/v1", "kind": "AdmissionReview", "response": said})}
+
+    def run(self, count):
+        while count and (line := INPUT.readline(LINE)):
+            assert line.endswith(b"\n"), "a frame longer than a mebibyte"
+            write(self.response(json.loads(line)))
+            count -= 1
 
 
 def main():
@@ -133,16 +357,21 @@ def main():
     word, _, rest = os.environ.get("FAKE", "").partition(" ")
     if word == "ends":
         return int(rest)
+    if word == settings["frame"] == "blobs":
+        return int(rest)
     if word == "garbage":
         OUTPUT.write(b"this is not a frame\n")
         return 0
     if word == "frame":
         write(json.loads(rest))
         return 0
+    if settings["frame"] == "admit":
+        Reviews(settings["rules"]).run(settings["reviews"])
+        return 0
     try:
         if word == "settings":
             raise Refused("refused Settings " + json.dumps(json.dumps(settings)) + "\n")
-        Pull(settings).run()
+        words()[settings["frame"]](settings).run()
         return 0
     except Refused as refused:
         write({"frame": "refused", "report": rest.encode().decode("unicode_escape") if word == "refused" else str(refused)})

@@ -12,7 +12,7 @@ if lock is None:
     print("lock refused Unreadable")
 elif json.dumps(lock, ensure_ascii=False, sort_keys=True, separators=(",", ":")) != given["lock"]:
     print("lock refused NotCanonical")
-elif lock["entries"] and not given["case"]["signatures"]:
+elif lock["entries"] and not given["case"].get("signatures"):
     print(f'lock fails "{lock["entries"][0]["image"]}"')
 else:
     print("lock holds")

@@ -17,7 +17,7 @@ class Registry:
     def __init__(self, answers):
         self.answers, self.blob, self.named, self.left = answers, "", {}, b""
 
-    def reply(self, frame):
+    def reply(self, frame, body=()):
         if frame["frame"] == "request":
             self.named[frame["url"]] = self.blob
             status, self.left = self.answers.get(frame["url"], (404, b""))

@@ -33,7 +33,7 @@ class Command(WithFolder):
             for content in IMAGE:
                 self.assertEqual((image / "blobs/sha256" / digest_of(content)[7:]).read_bytes(), content)
             self.assertEqual((self.left(), self.left("out/image")), (["image"], ["blobs", "index.json", "oci-layout"]))
-            self.assertEqual(handler.connections, 1)
+            self.assertEqual(handler.connections, 2)  # for the documents, and for the blobs
 
     def test_whose_key_signed(self):
         with registry(documents=self.signed()) as (place, _):
@@ -119,7 +119,7 @@ class Command(WithFolder):
 
     def test_a_core_that_ends(self):
         with registry() as (place, _):
-            for fake, wanted in (("ends 3", 3), ("ends 5", 5), ("ends 6", 6), ("ends 4", 4), ("ends 9", 4), ("garbage", 4), ("early", 4),
+            for fake, wanted in (("ends 3", 3), ("ends 5", 5), ("ends 6", 6), ("ends 4", 4), ("ends 9", 4), ("garbage", 4), ("early", 4), ("blobs 0", 4), ("blobs 4", 4), ("blobs 6", 6),
                                  ("frame []", 4), ("frame 7", 4), ('frame {"frame":"verify"}', 4), ('frame {"frame":"request"}', 4), ('frame {"frame":"judge","certificate":"?"}', 4),
                                  ('frame {"frame":"refused","report":7}', 4)):
                 status, out, err = self.pull(place, fake=fake)
@@ -233,16 +233,14 @@ class Command(WithFolder):
                  "--platform", "linux/arm64", "--type", "x/y", "--predicate-type", "https://slsa.dev/provenance/v1", "-v")
         status, _, err = self.run_it(*words, fake="settings")
         self.assertIn('\\"frame\\": \\"documents\\"', err)
-        self.assertNotIn("blobs", err)
-        status, _, err = self.run_it(*words, "--blobs", fake="settings")
         self.assertEqual(status, 1)
         found = json.loads(json.loads(err.splitlines()[1].partition("Settings ")[2]))
         self.assertEqual(found.pop("keys"), [base64.b64encode(self.key.read_bytes()).decode()])
         self.assertLess(abs(found.pop("moment") - time.time()), 60)
         accepted = found.pop("accepted")
         self.assertTrue({"application/vnd.oci.image.layer.v1.tar+gzip", "x/y"} < set(accepted) and not any("wasm" in text for text in accepted))
-        self.assertEqual(found, {"frame": "settings", "reference": "r.example/a/b:c", "protocol": "https", "platform": "linux/arm64", "auth": "anonymous",
-                                 "constraints": [{"annotations": {"a": "1", "b": "x=y"}}], "log_keys": {}, "blobs": False,
+        self.assertEqual(found, {"frame": "documents", "reference": "r.example/a/b:c", "protocol": "https", "platform": "linux/arm64", "auth": "anonymous",
+                                 "constraints": [{"annotations": {"a": "1", "b": "x=y"}}], "log_keys": {},
                                  "statements": [COSIGN_SIGN, "https://slsa.dev/provenance/v1"]})
 
     def test_tls(self):
@@ -252,7 +250,7 @@ class Command(WithFolder):
         tls.load_cert_chain(self.folder / "tls.pem", self.folder / "tls.key")
         with registry(tls=tls) as (place, handler):
             self.assertEqual(self.pull(place, "--ca", str(self.folder / "tls.pem"))[0], 0)
-            self.assertEqual(handler.connections, 1)
+            self.assertEqual(handler.connections, 2)
 
     def test_a_token_that_expires(self):
         """After a 401 in the middle of a pull, the core asks anew; what had come whole is not requested again."""
@@ -263,7 +261,7 @@ class Command(WithFolder):
             return handler.answer(401, b"") if len(count) == 2 else handler.usual()
 
         (self.folder / "config.json").write_text("{}")
-        for word, blobs in (("pull", 4), ("verify", 5)):
+        for word, blobs in (("pull", 4), ("verify", 4)):
             count.clear()
             with registry(_blobs_=expired) as (place, handler):
                 (self.folder / "config.json").write_text(json.dumps({"auths": {place: {"auth": pair}}}))
@@ -304,6 +302,11 @@ class Parts(unittest.TestCase):
             (f'refused OciReferenceNotValidError "{S}@sha256"\n', f"{S}@sha256 is not a valid reference"),
             (f'refused RegistryPullError "{S}" IncompatibleLayerMediaTypeError "a \\"b\\""\n', 'a layer has the type a "b", which is not accepted'),
             (f'refused RegistryPullError "{S}" ManifestParsingError 12\n', "a response is refused as ManifestParsingError 12"),
+            (f'refused Push "sha256:a" RegistryError 1 "{U}0"\n', f"sha256:a was not pushed: {U}0 returned the status 500; see"),
+            (f'refused Taken "{S}" "sha256:a"\n', f"{S} is there already, with the digest sha256:a; choose another tag"),
+            ('refused Missing "sha256:a"\n', "the target does not have sha256:a, although it took it; copy again"),
+            ("refused BodyTooLong\n", "a body is longer than the limit; do not use it"),
+            (f'refused UnauthorizedError "{U}"\n', f"{U} needs credentials, or other ones (why)"),
             ("refused EmptyPolicy\n", "a response is refused as EmptyPolicy"),
         ):
             sentence = Refusals({U: 404, U + "0": 500}, "why", "its log").sentence(S, report)

@@ -492,6 +492,120 @@ class Again(unittest.TestCase):
                     self.assertEqual(signal.pthread_sigmask(signal.SIG_BLOCK, []), set())
 
 
+class Kept(unittest.TestCase):
+    """What is remembered of `/v2/` and of token services, for all connections of a run."""
+
+    def asked(self, life=300, status=200):
+        def way(_, path):
+            if path == "/v2/":
+                return answer(b"{}", 401, f'WWW-Authenticate: Bearer realm="http://{server.place}/token"')
+            if path.startswith("/token"):
+                return answer(json.dumps({"token": "t", "expires_in": life}).encode(), status)
+            return answer(b"x", 401 if path.endswith("closed") else 200)
+
+        def step(network, path=None, headers=()):
+            for url in (f"http://{server.place}/v2/", f"http://{server.place}/token?scope=a"):
+                got.append(get(network, url, headers)[1:])
+            if path:
+                get(network, f"http://{server.place}{path}")
+
+        got = []
+        with Server(way) as server:
+            network = network_of(server)
+            step(network)
+            step(network.beside(), "/v2/app/open")
+            counts = [len(server.seen)]
+            step(network, "/v2/app/closed")
+            step(network)
+            counts.append(len(server.seen))
+            step(network, headers=[["authorization", "Basic x"]])
+            counts.append(len(server.seen))
+        self.assertTrue(all(one == two for one, two in zip(got[::2], got[2::2])), got)
+        return counts
+
+    def test_what_is_remembered(self):
+        self.assertEqual(self.asked(), [3, 6, 8])
+        self.assertEqual(self.asked(life=-1), [4, 8, 10])
+        self.assertEqual(self.asked(life="x"), [4, 8, 10])
+        self.assertEqual(self.asked(status=403), [4, 8, 10])
+
+    def test_realms_are_those_of_the_answer_that_is_remembered(self):
+        with Server(lambda _, path: answer(b"", 401, 'WWW-Authenticate: Bearer realm="https://a.io/t"')) as server:
+            network = network_of(server)
+            for _ in range(2):
+                get(network, f"http://{server.place}/v2/")
+                self.assertEqual(network.realms, {place_of("https://a.io/t")})
+            self.assertEqual(len(server.seen), 1)
+
+
+class Uploads(unittest.TestCase):
+    """Bodies of requests: whole, in pieces, sent again only if they are short."""
+
+    def sent(self, size, *statuses, pieces=3):
+        """What a server that answers so got, and what was told."""
+        got, content, following = [], os.urandom(size), itertools.chain(statuses, itertools.repeat(statuses[-1]))
+
+        def serve(connection):
+            with contextlib.suppress(OSError), connection:
+                stream = connection.makefile("rb")
+                while head := b"".join(iter(stream.readline, b"\r\n")):
+                    found = sorted(line for line in head.decode().lower().split("\r\n") if line.startswith(("content", "transfer", "expect")))
+                    got.append((found, stream.read(size) == content))
+                    status = next(following)
+                    connection.sendall(answer(b"", status, *(["Retry-After: 0"] if status == 429 else ["Location: /x"])))
+
+        with socket.create_server(("127.0.0.1", 0)) as listening:
+            threading.Thread(target=lambda: [serve(listening.accept()[0]) for _ in range(5)], daemon=True).start()
+            place = f"localhost:{listening.getsockname()[1]}"
+            network, step = Network(Access(place, True), timeout=5), max(1, size // pieces)
+            frame = {"frame": "request", "method": "PUT", "url": f"http://{place}/v2/x", "headers": [["content-type", "a/b"], ["content-length", str(size)]]} | ({"bytes": size} if size else {})
+            body = iter([content[at:at + step] for at in range(0, size, step)])
+            head, _ = network.reply(frame, body)
+            return got, head, list(body)
+
+    def test_bodies(self):
+        for size in (0, 1, 300_000, 20 * MIB):
+            got, head, left = self.sent(size, 201)
+            self.assertEqual((got, head["status"], left), ([([f"content-length: {size}", "content-type: a/b"], True)], 201, []), size)
+            self.assertIn(["location", "/x"], head["headers"])
+
+    def test_a_busy_registry(self):
+        got, head, _ = self.sent(300_000, 429, 201)
+        self.assertEqual(([right for _, right in got], head["status"]), ([True, True], 201))
+        got, head, _ = self.sent(20 * MIB, 429, 201)
+        self.assertEqual((len(got), head["status"]), (1, 429))
+
+    def test_a_kept_connection_that_was_closed(self):
+        """A short body is sent again on another one."""
+        def serve(listening):
+            for _ in range(3):
+                connection, _ = listening.accept()
+                with connection, connection.makefile("rb") as stream:
+                    b"".join(iter(stream.readline, b"\r\n"))
+                    got.append(stream.read(9))
+                    connection.sendall(answer(b"", 201))
+
+        got = []
+        with socket.create_server(("127.0.0.1", 0)) as listening:
+            threading.Thread(target=serve, args=[listening], daemon=True).start()
+            place = f"localhost:{listening.getsockname()[1]}"
+            network = Network(Access(place, True), timeout=5)
+            for _ in range(3):
+                head, _ = network.reply({"frame": "request", "method": "PUT", "url": f"http://{place}/v2/x", "headers": [], "bytes": 9}, [b"some body"])
+                self.assertEqual(head.get("status"), 201, network.failure)
+                time.sleep(0.1)
+        self.assertEqual(got, [b"some body"] * 3)
+
+    def test_a_body_that_ends_early(self):
+        def broken():
+            yield b"x"
+            raise ValueError("the core ended within a frame")
+        with Server(answer(b"")) as server:
+            network = network_of(server)
+            frame = {"frame": "request", "method": "PUT", "url": f"http://{server.place}/v2/x", "headers": [], "bytes": 20 * MIB}
+            self.assertEqual(network.reply(frame, broken())[0], {"frame": "failed"})
+
+
 def proxy_of(server):
     """A way that forwards to a server, by CONNECT or by whole URLs."""
     def way(connection, path):

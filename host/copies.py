@@ -1,0 +1,141 @@
+"""Copies: an image that is verified at its source, and pushed to a target with the signature that stood for it. Its blobs are checked by cores side by side."""
+import argparse
+import json
+import tempfile
+import time
+from pathlib import Path
+from typing import Iterable
+
+from host.blobs import Blobs, Refused, parsed, refused_layer
+from host.carriers import Skopeo
+from host.conversation import Exchanges, Sent, converse
+from host.core import Core, Frame
+from host.layout import Layout
+from host.network import Network
+from host.policy import Rule
+from host.refusals import Refusals
+from host.signatures import Signatures
+from host.terminal import End, failed
+
+
+class Sides:
+    """Two registries, each with its own rules and connections. The core says which one the next requests are for."""
+
+    def __init__(self, source: Network, target: Network, pushed: list[bool]) -> None:
+        self.both, self.now, self.failure, self.pushed = {"source": source, "target": target}, source, "", pushed  # of each manifest, whether a referrer is listed
+
+    @property
+    def base(self) -> str:
+        return self.now.base
+
+    @property
+    def statuses(self) -> dict[str, int]:
+        return self.both["source"].statuses | self.both["target"].statuses
+
+    @property
+    def blob(self) -> str:
+        return self.now.blob
+
+    @blob.setter
+    def blob(self, digest: str) -> None:
+        self.now.blob = digest
+
+    def beside(self) -> "Sides":
+        return Sides(self.both["source"].beside(), self.both["target"].beside(), self.pushed)
+
+    def ahead(self) -> None:
+        self.now.ahead()
+
+    def turn(self, side: str) -> None:
+        self.now.leave()
+        self.now = self.both[side]
+
+    def close(self) -> None:
+        for network in self.both.values():
+            network.close()
+
+    def reply(self, frame: Frame, body: Iterable[bytes] = ()) -> tuple[Frame, bytes]:
+        answer, data = self.now.reply(frame, body)
+        self.failure = self.now.failure or self.failure
+        if frame["frame"] == "request" and frame["method"] == "PUT" and "/manifests/" in frame["url"] and self.now is self.both["target"]:
+            self.pushed.append(any(name == "oci-subject" for name, _ in answer.get("headers", [])))
+        return answer, data
+
+
+class Copy:
+    """One copy; with `--all` also of each image of its index, all of which are there before the index is."""
+
+    def __init__(self, option: argparse.Namespace, rule: Rule, settings: Frame, target: Frame, sides: Sides) -> None:
+        self.option, self.rule, self.settings, self.target, self.sides = option, rule, settings, target, sides
+        self.signatures, self.skopeo = Signatures(rule), Skopeo(target, option.target_ca, option.proxy)
+
+    def decide(self, core: Core) -> tuple[int, str, Frame]:
+        """The status, the sentence and the core's last frame."""
+        name, exchanges = self.option.place, Exchanges(self.sides, None)
+        end, registry = self.copied(core, self.settings, exchanges, True)
+        if end["frame"] == "ended":
+            return failed(name, end["status"])
+        if end["frame"] == "refused":
+            return 1, Refusals(registry.statuses, registry.failure, self.signatures.why).sentence(name, end["report"]), end
+        sent = kinds_of(exchanges.sent)
+        signature, digest = sent["signature"]["digest"], first_of(sent)
+        signer = self.signatures.signer(signature)
+        told = f"copied {name} to {self.option.target}: {digest}, signed by {signature}{signer and f' ({signer})'}"
+        if sent["signature"]["kind"] == "bundle" and not (self.sides.pushed and self.sides.pushed[-1]):
+            told += "; the target does not list referrers, so the signature is found there by its digest alone"
+        return 0, told, end | {"digest": digest, "manifest": sent["manifest"]["digest"], "signature": signature, "signer": signer, "target": self.option.target}
+
+    def copied(self, core: Core, settings: Frame, exchanges: Exchanges, tag: bool) -> Refused:
+        """The last frame of a core that copies, and who was asked before it; or why its blobs are not at the target."""
+        sides, refused = exchanges.registry, list[Refused]()
+
+        def carry() -> bool:
+            refused.extend(filter(None, [self.carried(settings, exchanges.sent, tag)]))
+            return not refused
+
+        exchanges.carry = carry
+        first = {"frame": "copy", "settings": settings | {"moment": int(time.time())}, "target": self.target, "replace": self.option.replace, "tag": tag}
+        end = converse(core, first, exchanges, self.signatures)
+        return refused[0] if refused else (end, sides)
+
+    def carried(self, settings: Frame, sent: Sent, tag: bool) -> Refused | None:
+        """Carries the blobs of the documents that the core has decided, and before them, if all are asked for, copies the other images of the index."""
+        documents, kinds = {frame["kind"]: content for frame, content in sent if frame["frame"] == "document"}, kinds_of(sent)
+        if tag and not self.option.replace and (refused := self.skopeo.taken(first_of(kinds), kinds["signature"])):
+            return refused, self.sides
+        if tag and self.option.all and "index" in documents:
+            entries = dict.fromkeys(entry["digest"] for entry in json.loads(documents["index"])["manifests"])
+            for other in (digest for digest in entries if digest != kinds["manifest"]["digest"]):
+                end, asked = self.copied(Core(), settings | {"platform": {"digest": other}}, Exchanges(self.sides.beside(), None), False)
+                if end["frame"] != "copied":
+                    return end, asked
+        return self.carry_blobs(settings, kinds["manifest"], documents["manifest"])
+
+    def carry_blobs(self, settings: Frame, frame: Frame, content: bytes) -> Refused | None:
+        """Has the blobs checked as a pull does, into a layout that is removed again, and pushed from there."""
+        try:
+            manifest = parsed(content)
+        except ValueError as error:
+            raise End(1, f"its manifest cannot be copied, since a frame cannot have it: {error}") from None
+        if refused := refused_layer(self.option.place, manifest, self.option.type):
+            return refused, self.sides
+        with tempfile.TemporaryDirectory(prefix="roksnaep-") as folder:
+            layout = Layout(Path(folder) / "image", "oci", None)
+            layout.manifest = {"mediaType": frame["media_type"], "digest": frame["digest"], "size": frame["bytes"]}
+            layout.add(frame["digest"], [content])
+            word = {"frame": "blobs", "settings": settings, "manifest": manifest}
+            if refusal := Blobs(word, self.sides.both["source"].beside, layout).run():
+                return refusal
+            layout.finish(self.option.place, frame["digest"], {})
+            if said := self.skopeo.push(layout.work, frame["digest"]):
+                raise End(1, f"its blobs were not pushed to {self.option.target}: {said}")
+        return None
+
+
+def kinds_of(sent: Sent) -> dict[str, Frame]:
+    return {frame["kind"] if frame["frame"] == "document" else "signature": frame for frame, _ in sent}
+
+
+def first_of(kinds: dict[str, Frame]) -> str:
+    """The digest that was signed."""
+    return str(kinds.get("index", kinds["manifest"])["digest"])

@@ -1,0 +1,222 @@
+"""Cases of `tests/live`: images that are verified and copied to another registry, both real."""
+import base64
+import contextlib
+import json
+import shutil
+import signal
+import subprocess
+import sys
+import time
+import urllib.parse
+from pathlib import Path
+
+TOP = Path(__file__).resolve().parent.parent
+sys.path[:0] = [str(TOP), str(TOP / "tests")]
+import keyless  # noqa: E402
+from cryptography.hazmat.primitives.serialization import load_pem_private_key  # noqa: E402
+from locks import indexed  # noqa: E402
+from real_parts import certificates  # noqa: E402
+from registry import HASH, MANIFEST, Registry, asked, digest_of, door, json_token, layers_of, make_layout, put_referrers, ran, sign  # noqa: E402
+
+COMMAND, RELATIVE = TOP / "bin/roksnaep", ", relativeurls: true"
+
+
+@contextlib.contextmanager
+def target(live, name, auth="", more=""):
+    """Another registry, empty, whose locations are paths, so that a door before it sees all requests."""
+    folder = live.folder / name
+    shutil.rmtree(folder / "files", ignore_errors=True)
+    registry = Registry(folder, auth, RELATIVE + more)
+    try:
+        yield registry
+    finally:
+        registry.stop()
+
+
+def copies(live, source, to, *words, key=None, **more):
+    """It is copied; what the command said as JSON."""
+    status, out, err = live.ran(["copy", source, to, "--key", key or live.public, "--json", *words], **more)
+    told = json.loads(out)
+    assert (status, err, told["outcome"]) == (0, "", "copied"), (status, out, err)
+    return told
+
+
+def fails(live, told, source, to, *words, key=None, status=1, **more):
+    ended, out, err = live.ran(["copy", source, to, "--key", key or live.public, *words], **more)
+    assert (ended, out) == (status, "") and err.count("\n") == 1 and told in err, (ended, out, err)
+    return err
+
+
+def raw(reference, *words):
+    return ran("skopeo", "inspect", "--raw", "--tls-verify=false", *words, f"docker://{reference}")
+
+
+def is_empty(registry, repository="copy"):
+    """Whether nothing was pushed to it: no manifest has a name."""
+    path = registry.folder / f"files/docker/registry/v2/repositories/{repository}/_manifests"
+    return not path.exists() or not any(path.rglob("link"))
+
+
+def copies_an_image(live):
+    """Byte for byte, and what is verified at the target is what was verified at the source. The second copy sends no blob."""
+    source = f"{live.place}/app:v1"
+    with target(live, "copied") as registry:
+        seen = []
+        with door({"/": lambda at: seen.append((at.command, at.path)) or at.hand_on()}, registry.place) as place:
+            told = copies(live, source, f"{place}/copy:v1", "--annotation", "stage=production")
+            assert told["digest"] == live.image["digest"], told
+            assert raw(source) == raw(f"{registry.place}/copy:v1")
+            for blob in (live.folder / "image/blobs/sha256").iterdir():
+                assert registry.blob_file(f"sha256:{blob.name}").read_bytes() == blob.read_bytes()
+            live.pulls(f"{place}/copy:v1", live.folder / "image")
+            assert live.ran(["verify", f"{place}/copy:v1", "--key", live.public, "--blobs", "--annotation", "stage=production"])[0] == 0
+            seen.clear()
+            copies(live, source, f"{place}/copy:v1")
+            small = [path for command, path in seen if command == "PATCH"]
+            assert len(small) <= 2, small  # of the payload, and of {}
+    return told["sentence"]
+
+
+def copies_nothing_that_another_key_signed(live):
+    with target(live, "unsigned") as registry:
+        told = fails(live, "matches the given keys and annotations", f"{live.place}/app:v1", f"{registry.place}/copy:v1", key=live.other)
+        asked(registry.place, "GET", "/v2/copy/tags/list", expected=(404,))
+        assert is_empty(registry)
+    return told
+
+
+def copies_an_index(live):
+    """One image of it alone is refused by this registry; with --all each is there before the index."""
+    digest = indexed(live, "many-platforms")
+    source, seen = f"{live.place}/many-platforms:v1", []
+    with target(live, "indexed") as registry:
+        told = fails(live, "/manifests/", source, f"{registry.place}/copy:v1", "--platform", "linux/amd64")
+        asked(registry.place, "GET", "/v2/copy/manifests/v1", expected=(404,))
+        with door({"/manifests/": lambda at: (seen.append(at.path) if at.command == "PUT" else None) or at.hand_on()}, registry.place) as place:
+            whole = copies(live, source, f"{place}/copy:v1", "--all", "--platform", "linux/amd64")
+            assert whole["digest"] == digest and raw(source) == raw(f"{registry.place}/copy:v1")
+        for architecture in ("amd64", "arm64"):
+            found = json.loads(ran("skopeo", "inspect", "--override-arch", architecture, "--override-os", "linux", "--tls-verify=false", f"docker://{registry.place}/copy:v1"))
+            assert found["Architecture"] == architecture, found
+            assert live.ran(["verify", f"{registry.place}/copy:v1", "--key", live.public, "--platform", f"linux/{architecture}", "--blobs"])[0] == 0
+        assert seen.index("/v2/copy/manifests/v1") >= 2, seen
+    return told
+
+
+def goes_on_with_a_copy_that_broke_off(live):
+    """The third PATCH breaks: no tag is there. The next copy sends what is not."""
+    with target(live, "broken-copy") as registry:
+        seen = []
+
+        def cut(at):
+            seen.append(at.path)
+            return at.answer(500, b"") if len(seen) == 3 else at.hand_on()
+
+        def uploads(at):
+            return cut(at) if at.command == "PATCH" else at.hand_on()
+        with door({"/blobs/uploads/": uploads}, registry.place) as place:
+            told = fails(live, "", f"{live.place}/app:v1", f"{place}/copy:v1")
+        assert len(seen) >= 3
+        asked(registry.place, "GET", "/v2/copy/manifests/v1", expected=(404,))
+        assert is_empty(registry)
+        copies(live, f"{live.place}/app:v1", f"{registry.place}/copy:v1")
+    return told
+
+
+def copies_with_credentials_of_each(live):
+    """The source wants a password and the target a token: neither sees anything of the other."""
+    folder, given, seen = live.folder / "sides", [], {"source": [], "target": []}
+    folder.mkdir()
+    shutil.copytree(live.registry.folder / "files", folder / "source/files")
+    (folder / "users").write_text(f"user:{HASH}\n")
+    key, certificate = folder / "tls.key", folder / "tls.pem"
+    ran("openssl", "req", "-x509", "-newkey", "rsa:2048", "-nodes", "-keyout", key, "-out", certificate, "-subj", "/CN=localhost", "-days", "2")
+    source = Registry(folder / "source", f"auth: {{htpasswd: {{realm: live, path: {folder}/users}}}}\n")
+
+    def give(at):
+        query = urllib.parse.parse_qs(urllib.parse.urlsplit(at.path).query)
+        given.append(query["scope"][0])
+        kind, name, actions = given[-1].split(":")
+        if at.headers.get("authorization") != "Basic " + base64.b64encode(b"target:a password").decode():
+            return at.answer(401, b'{"errors":[{"code":"UNAUTHORIZED"}]}')
+        now = int(time.time())
+        claims = {"iss": "live", "sub": "target", "aud": query["service"][0], "exp": now + 300, "nbf": now - 10, "iat": now, "jti": "x",
+                  "access": [{"type": kind, "name": name, "actions": actions.split(",")}]}
+        return at.answer(200, json.dumps({"token": json_token(key, certificate, claims)}).encode(), [("Content-Type", "application/json")])
+
+    def noting(side):
+        return {"/": lambda at: (seen[side].append(at.headers.get("authorization")), give(at) if at.path.startswith("/token") else at.hand_on())[1]}
+
+    try:
+        with door({}, "") as spare:
+            pass
+        port = int(spare.rpartition(":")[2])
+        auth = f"auth: {{token: {{realm: 'http://localhost:{port}/token', service: live, issuer: live, rootcertbundle: {certificate}}}}}\n"
+        with target(live, "sides/target", auth) as registry, door(noting("source"), source.place) as here, door(noting("target"), registry.place, port=port) as there:
+            words = ("--username", "user", "--target-username", "target", "--password-stdin", "--http", "--target-http")
+            told = copies(live, f"{here}/app:v1", f"{there}/copy:v1", *words, input="right password\na password\n")
+            pairs = {side: "Basic " + base64.b64encode(text).decode() for side, text in (("source", b"user:right password"), ("target", b"target:a password"))}
+            assert set(seen["source"]) == {None, pairs["source"]}, set(seen["source"])
+            assert pairs["target"] in seen["target"] and all(text in (None, pairs["target"]) or text.startswith("Bearer ") for text in seen["target"])
+            assert given and all(scope.startswith("repository:copy:pull") for scope in given) and "repository:copy:pull,push" in given, given
+            config = {"auths": {here: {"auth": pairs["source"][6:]}, there: {"auth": pairs["target"][6:]}}}
+            (folder / "auth.json").write_text(json.dumps(config))
+            copies(live, f"{here}/app:v1", f"{there}/copy:v2", "--authfile", folder / "auth.json")
+            fails(live, "two users have two passwords", f"{here}/app:v1", f"{there}/copy:v1", *words, input="one\n", status=2)
+            fails(live, "unauthorized", f"{here}/app:v1", f"{there}/copy:v3", *words, input="right password\nwrong\n")
+    finally:
+        source.stop()
+    return told["sentence"]
+
+
+def replaces_a_tag_only_if_it_may(live):
+    """A tag that is there with another digest refuses the copy before anything is sent."""
+    other = make_layout(live.folder / "in-the-way", layers_of("in-the-way", [900]))
+    with target(live, "replaced") as registry:
+        to = f"{registry.place}/copy:v1"
+        live.push(live.folder / "in-the-way", "copy:v1", registry.place)
+        told = fails(live, other["digest"], f"{live.place}/app:v1", to)
+        assert digest_of(raw(to)) == other["digest"] and not registry.blob_file(digest_of(live.layers[3])).exists()
+        copies(live, f"{live.place}/app:v1", to, "--replace")
+        assert digest_of(raw(to)) == live.image["digest"]
+    return told
+
+
+def says_that_a_bundle_is_not_listed(live):
+    """This registry has no list of referrers."""
+    named = make_layout(live.folder / "bundle-copied", layers_of("bundle-copied", [900]))
+    live.push(live.folder / "bundle-copied", "bundle-copied:v1")
+    bundle = keyless.Sigstore().bundle(named["digest"], key=load_pem_private_key(live.key.read_bytes(), None))
+    put_referrers(live.place, "bundle-copied", named["digest"], [bundle])
+    with target(live, "listed") as registry:
+        said = copies(live, f"{live.place}/bundle-copied:v1", f"{registry.place}/copy:v1")
+        told = said["sentence"]
+        assert "the target does not list referrers" in told, told
+        found = json.loads(asked(registry.place, "GET", f"/v2/copy/manifests/{said['pushed'][-1]}", headers={"Accept": MANIFEST})[1])
+        assert found["subject"]["digest"] == named["digest"], found
+    return told
+
+
+def leaves_no_tag_when_stopped(live):
+    with target(live, "stopped-copy") as registry, door({"/blobs/uploads/": lambda at: time.sleep(30) if at.command == "PATCH" else at.hand_on()}, registry.place) as place:
+        words = [COMMAND, "copy", f"{live.place}/app:v1", f"{place}/copy:v1", "--key", live.public]
+        with subprocess.Popen(words, env=live.environment, stderr=subprocess.PIPE, text=True) as run:
+            time.sleep(5)
+            run.send_signal(signal.SIGINT)
+            err = run.communicate(timeout=20)[1]
+        assert (run.returncode, err) == (4, f"stopped {words[2]}: by SIGINT\n"), (run.returncode, err)
+        assert is_empty(registry)
+    return err
+
+
+def copies_over_tls(live):
+    """The target's root is for the target alone."""
+    root = certificates(live.folder / "copy-tls", "localhost")
+    folder = live.folder / "copy-tls"
+    with target(live, "copy-tls/registry", more=f", tls: {{certificate: {folder}/localhost.pem, key: {folder}/localhost.key}}") as registry:
+        copies(live, f"{live.place}/app:v1", f"{registry.place}/copy:v1", "--target-ca", root)
+        return fails(live, "certificate", f"{live.place}/app:v1", f"{registry.place}/copy:v2", "--target-ca", certificates(live.folder / "copy-tls-other"))
+
+
+CASES = [copies_an_image, copies_nothing_that_another_key_signed, copies_an_index, goes_on_with_a_copy_that_broke_off, copies_with_credentials_of_each, replaces_a_tag_only_if_it_may,
+         says_that_a_bundle_is_not_listed, leaves_no_tag_when_stopped, copies_over_tls]
