@@ -1,122 +1,147 @@
-"""An admission webhook of Kubernetes over HTTPS: each image of a Pod is decided apart, and the Pod is allowed if all of them are."""
+"""An admission webhook of Kubernetes over HTTPS: cores read reviews, decide them side by side, and write the responses, which go out as they are."""
 import asyncio
-import base64
 import contextlib
 import json
 import ssl
 import sys
+import threading
 import time
 from concurrent.futures import ThreadPoolExecutor
 from pathlib import Path
-from typing import Any, Callable, Iterable, NamedTuple
+from typing import Any, Callable, Iterable, Protocol
 
 from aiohttp import web
 
+from host.core import Core, Frame
+from host.policy import Rule
+from host.signatures import Signatures
 from host.terminal import printable
 
-VERSION, LONGEST, KEPT, SECONDS = "admission.k8s.io/v1", 4 << 20, 1000, 60
-LISTS = ("initContainers", "containers", "ephemeralContainers")
+VERSION, LONGEST, LINE, REVIEWS = "admission.k8s.io/v1", 1 << 20, 1 << 20, 1 << 32
 LATE = "not decided in time"
-# the digest and the text with it of an image that is allowed, else "" and why it is denied; by its text, and when the time is over
-Decide = Callable[[str, float], tuple[str, str]]
+# a response, "" if the text is no review, and the images that a rule covers
+Decided = tuple[str, list[str]]
 
 
-class Image(NamedTuple):
-    """An image of a Pod: the name of its container or volume, its text, and the place of this in the object (RFC 6901)."""
-    name: str
-    text: str
-    place: str
+class Replies(Protocol):
+    def reply(self, frame: Frame) -> tuple[Frame, bytes]: ...
 
 
-class Review(NamedTuple):
-    uid: str
-    namespace: str
-    images: list[Image]
+# the connections for an image, until the time is over
+Connect = Callable[[str, float], Replies]
 
 
-def text_in(value: Any, name: str) -> str:
-    if not isinstance(value[name], str):
-        raise ValueError(f"{name} is not a string")
-    return str(value[name])
+class Decider:
+    """A core that decides one review after another, and its host: connections for each image, and signatures by the rule that the core names."""
+
+    def __init__(self, admit: Frame, rules: dict[str, Rule], connect: Connect) -> None:
+        self.rules, self.connect, self.core = rules, connect, Core()
+        if self.core.read()["frame"] != "begin":
+            raise ValueError("the core began badly")
+        self.core.write(admit | {"frame": "admit", "reviews": REVIEWS})
+
+    def decide(self, line: bytes, end: float) -> Decided:
+        """What the core answers the review in a frame with. ValueError or OSError if it broke."""
+        core, images = self.core, list[str]()
+        core.input.write(line)
+        core.input.flush()
+        while (frame := core.read())["frame"] not in ("response", "unreadable"):
+            body = b"".join(core.body(frame))
+            match frame["frame"]:
+                case "image":
+                    images.append(frame["image"])
+                    network, signatures = self.connect(frame["image"], end), Signatures(self.rules[frame["rule"]])
+                case "request" | "more":
+                    core.write(*network.reply(frame))
+                case "verify" | "judge":
+                    core.write(signatures.reply(frame, body))
+                case name:
+                    raise ValueError(f"the core wrote the frame {name}")
+        return str(frame.get("response", "")), images
 
 
-def review_of(body: bytes) -> Review:
-    """What a review asks for: the images of all containers in order, then those of volumes. ValueError if it is not a review of a Pod."""
+class Deciders:
+    """Deciders, one for each thread that decides; one that breaks is replaced."""
+
+    def __init__(self, admit: Frame, rules: dict[str, Rule], connect: Connect) -> None:
+        self.admit, self.rules, self.connect, self.own = admit, rules, connect, threading.local()
+
+    def decide(self, line: bytes, end: float) -> Decided:
+        if time.monotonic() > end:
+            raise TimeoutError(LATE)
+        if not hasattr(self.own, "decider"):
+            self.own.decider = Decider(self.admit, self.rules, self.connect)
+        decider: Decider = self.own.decider
+        try:
+            return decider.decide(line, end)
+        except Exception:  # whatever was not foreseen is no yes
+            decider.core.process.kill()
+            del self.own.decider
+            raise
+
+
+def frame_of(text: str, mutate: bool, moment: int) -> bytes:
+    """The line of a review. ValueError if it is too long for a line."""
+    frame = {"frame": "review", "moment": moment, "mutate": mutate, "review": text}
+    line = json.dumps(frame, ensure_ascii=False).encode() + b"\n"
+    if len(line) > LINE:
+        raise ValueError("the review is too long")
+    return line
+
+
+def denied(text: str, why: str) -> str:
+    """The response to a review that no core decided."""
     try:
-        given = json.loads(body)
-        if given["apiVersion"] != VERSION or given["kind"] != "AdmissionReview":
-            raise ValueError(f"not an AdmissionReview of {VERSION}")
-        request = given["request"]
-        spec, images = request["object"]["spec"], []
-        for member in LISTS:
-            for place, one in enumerate(spec[member] if member == "containers" else spec.get(member, [])):
-                images.append(Image(text_in(one, "name"), text_in(one, "image"), f"/spec/{member}/{place}/image"))
-        if not spec["containers"]:
-            raise ValueError("it has no containers")
-        for place, one in enumerate(spec.get("volumes", [])):
-            if "image" in one:
-                images.append(Image(text_in(one, "name"), text_in(one["image"], "reference"), f"/spec/volumes/{place}/image/reference"))
-        return Review(text_in(request, "uid"), str(request.get("namespace") or ""), images)
-    except (ValueError, LookupError, TypeError, AttributeError, RecursionError) as error:
+        uid = str(json.loads(text)["request"]["uid"])
+    except (ValueError, LookupError, TypeError, RecursionError) as error:
         raise ValueError(f"not a review of a Pod ({type(error).__name__}: {error})") from None
+    return json.dumps({"apiVersion": VERSION, "kind": "AdmissionReview", "response": {"allowed": False, "status": {"message": why}, "uid": uid}})
 
 
-def response(uid: str, denied: list[str], patch: list[dict[str, str]]) -> dict[str, Any]:
-    """The answer to a review: allowed if nothing is denied. A patch is a JSON Patch (RFC 6902)."""
-    said: dict[str, Any] = {"uid": uid, "allowed": not denied}
-    if denied:
-        said["status"] = {"message": "; ".join(denied)}
-    elif patch:
-        said |= {"patchType": "JSONPatch", "patch": base64.b64encode(json.dumps(patch).encode()).decode()}
-    return {"apiVersion": VERSION, "kind": "AdmissionReview", "response": said}
+def logged(text: str, response: str, images: list[str], milliseconds: int) -> str:
+    """A line of the log: what the review and the response say."""
+    def member(value: Any, *names: str) -> Any:
+        for name in names:
+            value = value.get(name) if isinstance(value, dict) else None
+        return value
+    review, said = json.loads(text), json.loads(response)["response"]
+    line = {"uid": said["uid"], "namespace": member(review, "request", "namespace"), "images": images, "allowed": said["allowed"],
+            "milliseconds": milliseconds}
+    return printable(json.dumps(line | ({"denied": said["status"]["message"]} if "status" in said else {})))
 
 
 class Webhook:
-    """Reviews, decided side by side by so many cores. An image that is allowed is decided again after a minute."""
+    """Reviews, decided side by side by so many cores."""
 
-    def __init__(self, decide: Decide, jobs: int, seconds: float) -> None:
+    def __init__(self, decide: Callable[[bytes, float], Decided], jobs: int, seconds: float) -> None:
         self.decide, self.seconds, self.pool = decide, seconds, ThreadPoolExecutor(jobs)
-        self.kept = dict[str, tuple[float, str]]()  # of a text, until when, and with its digest
 
-    def decided(self, text: str, end: float) -> tuple[str, str]:
-        """The text with its digest, and why it is denied, one of them empty."""
-        now = time.monotonic()
-        if text in self.kept and now < self.kept[text][0]:
-            return self.kept[text][1], ""
-        if now > end:
-            return "", LATE
-        try:
-            pinned, why = self.decide(text, end)
-        except Exception as error:  # whatever was not foreseen is no yes
-            pinned, why = "", f"{type(error).__name__}: {error}"
-        if not pinned and time.monotonic() > end:
-            why = LATE
-        if pinned:
-            self.kept = {name: kept for name, kept in self.kept.items() if now < kept[0] and name != text}
-            if len(self.kept) >= KEPT:
-                del self.kept[next(iter(self.kept))]
-            self.kept[text] = (now + SECONDS, pinned)
-        return pinned, why
+    async def decided(self, text: str, mutate: bool) -> Decided:
+        """The response to a review. What is not decided in time, or by a core that breaks, is denied."""
+        end = time.monotonic() + self.seconds
+        line = frame_of(text, mutate, int(time.time()))
+        task = asyncio.get_running_loop().run_in_executor(self.pool, self.decide, line, end)
+        task.add_done_callback(lambda done: done.exception())  # it may end after its response
+        await asyncio.wait([task], timeout=self.seconds)
+        if not task.done() or time.monotonic() > end:
+            return denied(text, LATE), []
+        if error := task.exception():
+            return denied(text, f"the core ended unexpectedly ({type(error).__name__}: {error})"), []
+        return task.result()
 
     async def answer(self, request: web.Request) -> web.Response:
         began = time.monotonic()
         if request.content_type != "application/json":
             raise web.HTTPBadRequest(text="send the review as application/json\n")
         try:
-            review = review_of(await request.read())
+            text = (await request.read()).decode()
+            response, images = await self.decided(text, request.path == "/mutate")
         except ValueError as error:
             raise web.HTTPBadRequest(text=f"{error}\n") from None
-        loop, end = asyncio.get_running_loop(), began + self.seconds
-        tasks = {text: loop.run_in_executor(self.pool, self.decided, text, end) for text in dict.fromkeys(image.text for image in review.images)}
-        await asyncio.wait(tasks.values(), timeout=self.seconds)
-        found = {text: task.result() if task.done() else ("", LATE) for text, task in tasks.items()}
-        denied = [f"{image.name}: {found[image.text][1]}" for image in review.images if not found[image.text][0]]
-        patch = [{"op": "replace", "path": image.place, "value": found[image.text][0]} for image in review.images if found[image.text][0] != image.text]
-        said = response(review.uid, denied, patch if request.path == "/mutate" else [])
-        line = {"uid": review.uid, "namespace": review.namespace, "images": {image.text: found[image.text][0] for image in review.images},
-                "allowed": not denied, "milliseconds": round(1000 * (time.monotonic() - began))} | ({"denied": denied} if denied else {})
-        print(printable(json.dumps(line)), file=sys.stderr, flush=True)
-        return web.json_response(said)
+        if not response:
+            raise web.HTTPBadRequest(text="not a review of a Pod\n")
+        print(logged(text, response, images, round(1000 * (time.monotonic() - began))), file=sys.stderr, flush=True)
+        return web.Response(text=response, content_type="application/json")
 
 
 async def health(_: web.Request) -> web.Response:

@@ -1,4 +1,4 @@
-"""Lock files: entries from the frames of an image's documents, and their check, which `pull_program lockcheck` decides."""
+"""Lock files: entries from the frames of an image's documents, and their check, which the core decides."""
 import contextlib
 import json
 import os
@@ -6,9 +6,9 @@ import subprocess
 import tempfile
 import time
 from pathlib import Path
-from typing import Any
+from typing import Any, Iterable
 
-from host.conversation import Exchanges, converse
+from host.conversation import Exchanges, Sent, converse
 from host.core import Core, Frame
 from host.layout import BUNDLE, MANIFEST, Layout, Stored, digest_of
 from host.network import Network
@@ -19,7 +19,6 @@ from host.signatures import Signatures
 from host.terminal import End
 
 Entry = dict[str, Any]
-Sent = list[tuple[Frame, bytes]]  # frames, each with its bytes
 LONGEST = 256 << 20
 # of a signature layer: its media type, and where the search finds it
 KINDS = {"payload": ("application/vnd.dev.cosign.simplesigning.v1+json", "tag"), "bundle": (f"{BUNDLE}.v0.3+json", "referrers")}
@@ -66,57 +65,59 @@ def stored(folder: Path, entry: Entry) -> Stored:
     return Stored(folder / "image", None)
 
 
-class Questions(Signatures):
-    """Answers to the core's questions, and which of them were yes, as a recorded case has these."""
-
-    def __init__(self, rule: Rule) -> None:
-        super().__init__(rule)
-        self.valid, self.certificates = list[Frame](), dict[str, Frame]()
-
-    def reply(self, frame: Frame, message: bytes = b"") -> Frame:
-        answer = super().reply(frame, message)
-        if answer.get("valid"):  # a case has a message's digest in its place
-            self.valid.append({"key": {"base64": frame["key"]}, "message": digest_of(message), "signature": {"base64": frame["signature"]}})
-        elif vouched := answer.get("vouched"):
-            self.certificates[frame["certificate"]] = vouched | {"certificate": {"base64": frame["certificate"]}, "key": {"base64": vouched["key"]}}
-        return answer
-
-
-def verdict(text: str, questions: Questions | None = None, platform: Any = None) -> list[str]:
-    """The line of `lockcheck` as words; without questions, only whether the text is a lock file counts."""
-    settings = questions.rule.settings() if questions else {"keys": [], "constraints": [{"annotations": {}}], "log_keys": {}}
-    case = {"reference": "localhost/image:lock", "accepted": [], "moments": [0], "answers": [], "platform": platform, "constraints": settings["constraints"],
-            "keys": [{"base64": key} for key in settings["keys"]], "log_keys": {name: {"base64": key} for name, key in settings["log_keys"].items()},
-            "signatures": questions.valid if questions else [], "vouched": [*questions.certificates.values()] if questions else []}
+def unread(text: str) -> str:
+    """Why the text is not a lock file; empty if it is one."""
+    case = {"reference": "localhost/image:lock", "accepted": [], "moments": [0], "answers": [], "keys": [], "constraints": [{"annotations": {}}], "signatures": [], "vouched": []}
     path, which = program("pull_program")
     done = subprocess.run([path, "lockcheck"], input=json.dumps({"case": case, "lock": text}).encode(), capture_output=True)
     if done.returncode not in (0, 1):
         raise End(4, f"{path} ({which}) ended with the status {done.returncode}")
-    return done.stdout.decode().split()
+    words = done.stdout.decode().split()
+    return words[2] if words[1] == "refused" else ""
+
+
+def holds(entry: Entry, settings: Frame, signatures: Signatures) -> bool:
+    """Whether the core says that a lock of the entry holds. It asks about signatures, and sends no request."""
+    core = Core()
+    try:
+        while (frame := core.read())["frame"] != "lock":
+            message = b"".join(core.body(frame))
+            core.write({"frame": "lockcheck", "lock": text_of([entry]), "settings": settings} if frame["frame"] == "begin" else signatures.reply(frame, message))
+        return bool(frame["verdict"] == "holds")
+    except (BrokenPipeError, LookupError, TypeError, ValueError):
+        raise End(4, f"the core ended with the status {core.end()}") from None
+    finally:
+        core.process.kill()
 
 
 class Lock:
     """A lock file that was read: its entries, by the whole texts of their references."""
 
     def __init__(self, name: str, text: str) -> None:
-        words = verdict(text)
-        if words[:2] == ["lock", "refused"]:
-            raise End(1, f"{name} {REFUSED[words[2]]}; write it anew: roksnaep lock")
+        if cause := unread(text):
+            raise End(1, f"{name} {REFUSED[cause]}; write it anew: roksnaep lock")
         self.entries: dict[str, Entry] = {entry["image"]: entry for entry in json.loads(text)["entries"]}
 
     def check(self, entry: Entry, rule: Rule, platform: str | None) -> None:
-        """Ends the command unless the image is locked under the rule: the core asks about its signature, and `lockcheck` decides."""
-        questions, end, failure = Questions(rule), Frame(), ""
-        with tempfile.TemporaryDirectory() as folder, contextlib.suppress(OSError, LookupError):  # a digest that names no file
-            registry = stored(Path(folder), entry)
-            settings = {"frame": "documents", "accepted": entry["accepted"], "reference": registry.reference, "protocol": "https", "auth": "anonymous",
-                        "platform": {"digest": entry["manifest_digest"]}, "moment": int(time.time())}
-            end = converse(Core(), settings | rule.settings(), Exchanges(registry, None), questions)
-            if end["frame"] == "refused":
-                failure = Refusals(registry.statuses, registry.failure, questions.why).sentence(entry["image"], end["report"])
-        if verdict(text_of([entry]), questions, platform or {"digest": entry["manifest_digest"]}) != ["lock", "holds"]:
+        """Ends the command unless the image is locked under the rule, as the core decides."""
+        settings: Frame = {"frame": "documents", "accepted": entry["accepted"], "reference": "localhost/image:lock", "protocol": "https", "auth": "anonymous",
+                           "platform": platform or {"digest": entry["manifest_digest"]}, "moment": int(time.time())} | rule.settings()
+        if not holds(entry, settings, Signatures(rule)):
+            failure = failure_of(entry, settings, rule)
             why = f"its image is not one for {platform}; choose another --platform" if platform and not failure else "its entry was edited; lock it again"
             raise End(1, failure.removeprefix("refused ") or f"{entry['image']}: {why}")
+
+
+def failure_of(entry: Entry, settings: Frame, rule: Rule) -> str:
+    """Why a pull of the entry's documents is refused, as a sentence; empty if it is not."""
+    signatures = Signatures(rule)
+    with tempfile.TemporaryDirectory() as folder, contextlib.suppress(OSError, LookupError):  # a digest that names no file
+        registry = stored(Path(folder), entry)
+        settings |= {"reference": registry.reference, "platform": {"digest": entry["manifest_digest"]}}
+        end = converse(Core(), settings, Exchanges(registry, None), signatures)
+        if end["frame"] == "refused":
+            return Refusals(registry.statuses, registry.failure, signatures.why).sentence(entry["image"], end["report"])
+    return ""
 
 
 def read_lock(path: Path) -> Lock:
@@ -157,7 +158,17 @@ class Pinned:
     def failure(self) -> str:
         return self.network.failure
 
-    def reply(self, frame: Frame) -> tuple[Frame, bytes]:
+    def beside(self) -> Network:
+        """What answers for the blobs, of which the entry has none."""
+        return self.network.beside()
+
+    def ahead(self) -> None: ...
+
+    def turn(self, side: str) -> None: ...
+
+    def close(self) -> None: ...
+
+    def reply(self, frame: Frame, body: Iterable[bytes] = ()) -> tuple[Frame, bytes]:
         if frame["frame"] == "request":
             *_, kind, name = frame["url"].partition("?")[0].split("/")
             self.is_stored = kind in ("manifests", "referrers") or kind == "blobs" and self.stored.path(name).is_file()

@@ -174,10 +174,10 @@ def admits_signed_images(live):
         assert post(pinned)["allowed"]
         live.push(live.folder / "image", "team/admitted:v1")
         assert post(pinned)["allowed"]
-        said = post(image, f"{live.place}/team/unsigned:v2", f"{live.place}/app:v1", f"{live.place}/other:v1", f"{live.place}/team/Not A Reference")
+        said = post(pinned, f"{live.place}/team/unsigned:v2", f"{live.place}/app:v1", f"{live.place}/other:v1", f"{live.place}/team/Not A Reference")
         denied = re.findall(r"(?:^|; )(c\d): ", said["status"]["message"])
         assert not said["allowed"] and denied == ["c1", "c2", "c3", "c4"], said
-        assert "no signature of" in said["status"]["message"] and "covered by no rule" in said["status"]["message"], said
+        assert "Unsatisfied" in said["status"]["message"] and "NoRule" in said["status"]["message"], said
         began = time.monotonic()
         assert all(post(pinned)["allowed"] for _ in range(20)) and time.monotonic() - began < 20
     return said["status"]["message"] + "\n"

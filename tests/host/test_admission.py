@@ -11,7 +11,7 @@ import unittest
 
 from support import MANIFEST, WithFolder, digest_of, openssl, registry
 
-from host.admission import response, review_of
+from host.admission import LATE, denied
 
 
 def review_about(*images, **more):
@@ -59,18 +59,15 @@ class Admission(WithFolder):
             with self.webhook([rule]):
                 status, said = self.post(review_about(image))
                 self.assertEqual((status, said), (200, {"uid": "705ab4f5-6393-11e8-b7cc-42010a800002", "allowed": True}))
-                seen = len(handler.seen)
                 pinned = f"{image}@{digest_of(MANIFEST)}"
                 said = self.post(review_about(image, pinned, initContainers=[{"name": "i", "image": image}]), "/mutate")[1]
                 self.assertEqual(json.loads(base64.b64decode(said["patch"])), [
                     {"op": "replace", "path": "/spec/initContainers/0/image", "value": pinned}, {"op": "replace", "path": "/spec/containers/0/image", "value": pinned}])
-                self.assertFalse([path for _, path, _ in handler.seen[seen:] if path.endswith("/v1")])  # decided a moment ago
                 said = self.post(review_about(image, f"{place}/other:v1", f"{place}/app:none", volumes=[{"name": "v", "image": {"reference": f"{place}/team/x"}}]))[1]
                 self.assertFalse(said["allowed"])
-                c1, c2, v = said["status"]["message"].split("; ")[0], said["status"]["message"], said["status"]["message"].split("; ")[-1]
-                self.assertEqual(c1, f"c1: {place}/other:v1 is covered by no rule of policy.json")
-                self.assertIn(f"c2: refused {place}/app:none: ", c2)
-                self.assertEqual(v, f"v: {place}/team/x is covered by no rule of policy.json")
+                c1, c2, v = said["status"]["message"].split("; ")
+                self.assertEqual((c1, v), ("c1: NoRule", "v: NoRule"))
+                self.assertIn(f'c2: RegistryFetchManifestError "{place}/app:none" ServerError 404 ', c2)
                 self.assertFalse([path for _, path, _ in handler.seen if "/other/" in path])
             lines = [json.loads(line) for line in self.told.splitlines()[:3]]
             self.assertEqual([(line["namespace"], line["allowed"]) for line in lines], [("team", True), ("team", True), ("team", False)])
@@ -79,7 +76,9 @@ class Admission(WithFolder):
         with self.webhook([{"images": "localhost", "keys": ["public"]}]):
             good = review_about("localhost/app:v1")
             self.assertEqual(self.post(good, kind="text/plain")[0], 400)
-            self.assertEqual(self.post(b"x" * 5_000_000)[0], 413)
+            self.assertEqual(self.post(b"x" * 2_000_000)[0], 413)
+            self.assertEqual(self.post(b'"' * 700_000)[0], 400)  # longer than a line of the core
+            self.assertEqual(self.post(b'"\xff"')[0], 400)
             for change in ({"kind": "Pod"}, {"apiVersion": "admission.k8s.io/v1beta1"}, {"request": None}, {"request": good["request"] | {"object": None}},
                            {"request": good["request"] | {"uid": 1}}):
                 self.assertEqual(self.post(good | change)[0], 400)
@@ -92,7 +91,7 @@ class Admission(WithFolder):
             with self.webhook([{"images": f"{place}/app", "keys": ["public"]}], "--deadline", "1"):
                 began = time.monotonic()
                 said = self.post(review_about(f"{place}/app:v1"))[1]
-                self.assertEqual((said["allowed"], said["status"]["message"]), (False, "c0: not decided in time"))
+                self.assertEqual((said["allowed"], said["status"]["message"]), (False, "not decided in time"))
                 self.assertLess(time.monotonic() - began, 2.5)
 
     def test_a_core_that_breaks_denies(self):
@@ -117,14 +116,18 @@ class Admission(WithFolder):
         self.assertEqual(self.run_it(*words)[0], 2)
         (self.folder / "policy.json").write_text(json.dumps({"version": 1, "rules": [{"images": "localhost", "keys": ["public"]}]}))
         self.assertEqual(self.run_it(*words, "--listen", "127.0.0.1")[0], 2)
+        (self.folder / "policy.json").write_text(json.dumps({"version": 1, "rules": [{"images": "localhost", "keys": ["public"]}] * 2}))
+        self.assertEqual(self.run_it(*words)[0], 2)
+        (self.folder / "policy.json").write_text(json.dumps({"version": 1, "rules": [{"images": "localhost", "keys": ["public"]}]}))
         (self.folder / "tls.key").write_text("no key")
         self.assertEqual(self.run_it(*words)[0], 2)
 
-    def test_responses(self):
-        self.assertEqual(response("u", [], []), {"apiVersion": "admission.k8s.io/v1", "kind": "AdmissionReview", "response": {"uid": "u", "allowed": True}})
-        self.assertEqual(response("u", ["a: b", "c: d"], [{}])["response"], {"uid": "u", "allowed": False, "status": {"message": "a: b; c: d"}})
-        images = review_of(json.dumps(review_about("a", "b", ephemeralContainers=[{"name": "e", "image": "d"}], initContainers=[{"name": "i", "image": "c"}])).encode()).images
-        self.assertEqual([(image.name, image.text) for image in images], [("i", "c"), ("c0", "a"), ("c1", "b"), ("e", "d")])
+    def test_a_denial_that_no_core_wrote(self):
+        said = json.loads(denied(json.dumps(review_about("a")), LATE))
+        self.assertEqual(said, {"apiVersion": "admission.k8s.io/v1", "kind": "AdmissionReview", "response": {
+            "uid": "705ab4f5-6393-11e8-b7cc-42010a800002", "allowed": False, "status": {"message": "not decided in time"}}})
+        for text in ("", "[]", "{}", '{"request":null}'):
+            self.assertRaises(ValueError, denied, text, LATE)
 
 
 if __name__ == "__main__":
