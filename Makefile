@@ -48,7 +48,7 @@ deb:
 	printf '%s\n' "Package: roksnaep" "Version: $(VERSION)" "Architecture: amd64" "Section: utils" "Priority: optional" \
 	  "Maintainer: Roksnaep <roksnaep@localhost>" "Installed-Size: $$(du -sk $(DEB) | cut -f1)" \
 	  "Depends: libc6 (>= 2.34), python3 (>= 3.11), python3-pycurl, python3-cryptography, python3-yaml" \
-	  "Recommends: python3-aiohttp" \
+	  "Recommends: python3-aiohttp, skopeo" \
 	  "Description: pulls a container image only if it has a signature that you trust" \
 	  " A command around a proved core: it verifies cosign's signatures, by keys or by" \
 	  " identities, before it writes an image as an OCI image layout or an archive." > $(DEB)/DEBIAN/control
@@ -101,20 +101,9 @@ gate:
 wrong-bodies:
 	tests/wrong-bodies $(CRATES)
 
-# Measures ratios within one run.
+# Measures ratios within one run, each beside its goal: it fails if a goal is missed by more than a tenth. One page, or make bench BENCH="canon run".
 bench: program $(TIMED)
-	python3 bench/run.py
-	python3 bench/canon.py
-	python3 bench/documents.py
-	python3 bench/signatures.py
-	python3 bench/referrers.py
-	python3 bench/caching.py
-	python3 bench/bundles.py
-	python3 bench/streams.py
-	python3 bench/pushes.py
-	python3 bench/generated.py
-	python3 bench/reviews.py
-	python3 bench/locks.py
+	python3 bench/page.py $(BENCH)
 
 # Makes each allocation of the stored run fail in turn.
 allocations: program

@@ -2,13 +2,15 @@
 """Measures how long a bundle of 32 MB takes to be read, and what it holds, as ratios within one run.
 
 Memory is told in bytes held at once for each byte of the bundle, the bundle itself among them, and time as the growth, both from
-a quarter of its size, where 4 is linear. Both sizes hold more than the process that measures, below which nothing is told.
+a quarter of its size, divided by 4. Both sizes hold more than the process that measures, below which nothing is told.
 """
 import base64
 import json
 import os
+import sys
 import tempfile
 
+from figures import Figure, page
 from run import measured
 
 HERE = os.path.dirname(os.path.abspath(__file__))
@@ -41,11 +43,13 @@ def read(size):
     return time, memory, len(text)
 
 
-def main():
+def figures():
     short, least, quarter = read(BYTES // 4)
     long, memory, length = read(BYTES)
-    print(f"a bundle of {length} bytes: {(memory - least) / (length - quarter):.2f} bytes held at once for each of its bytes, growth {long / short:.1f} for 4 times the bytes")
+    held = (memory - least) / (length - quarter)
+    yield Figure(f"a bundle of {BYTES >> 20} MiB", held, "bytes held at once for each of its bytes", 3)
+    yield Figure("its time", long / short / 4, "four of a quarter", 1.1)
 
 
 if __name__ == "__main__":
-    main()
+    sys.exit(page(figures))

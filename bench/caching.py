@@ -5,8 +5,10 @@ One image, with a manifest of signatures that has many layers, is pulled at 1000
 memory. What each later pull takes is told in the first one's time: by a client that keeps answers and by one that does not.
 """
 import json
+import sys
 import tempfile
 
+from figures import Figure, page
 from run import PROGRAM, measured, rows
 
 MOMENTS, LAYERS = 1000, 100
@@ -29,13 +31,13 @@ def timed(make, moments, caching):
     return time
 
 
-def main():
+def figures():
     make = rows()
-    for caching, named in [(True, "that keeps answers"), (False, "that does not")]:
+    for caching, named in [(True, "that caches"), (False, "that does not")]:
         first = timed(make, 1, caching)
         later = (timed(make, MOMENTS, caching) - first) / (MOMENTS - 1)
-        print(f"{MOMENTS} pulls in one minute by a client {named}: a later one takes {later / first:.3f} times what the first takes")
+        yield Figure(f"a later one of {MOMENTS} pulls in one minute by a client {named}", later / first, "the first")
 
 
 if __name__ == "__main__":
-    main()
+    sys.exit(page(figures))

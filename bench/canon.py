@@ -1,20 +1,25 @@
 #!/usr/bin/env python3
 """Measures `canon` on generated JSON that is deep, wide or full of strings, each by itself.
 
-Time is that of the processor. It is told as a ratio to a program that reads the same text by `serde_json` and prints it
-in the same run, and as the growth from an eighth of the text to the whole, where 8 is linear. A last line tells what nesting
-costs: the same long text inside many objects, in times of it inside one.
+Time is that of the processor. It is told as a ratio to a program that reads the same text by the kit's `serde_json` and
+prints it in the same run, and as the growth from an eighth of the text to the whole, divided by 8. If the environment
+variable `PEER` names the program of bench/peer, it is told as a ratio to that too. A last line tells what nesting costs:
+the same long text inside many objects, in times of it inside one.
 """
 import json
 import os
 import subprocess
+import sys
 import tempfile
 
+from figures import Figure, page
+
 HERE = os.path.dirname(os.path.abspath(__file__))
-PROGRAM = os.path.join(HERE, "../crates/pull_program/out/pull_program")
+PROGRAM = os.environ.get("PROGRAM") or os.path.join(HERE, "../crates/pull_program/out/pull_program")
 PLAIN = os.path.join(HERE, "../crates/timed_calls/out/timed_calls")
+PEER = os.environ.get("PEER")
 MEGABYTES = 32
-RUNS = 3
+RUNS = 5
 NESTED = 120
 
 
@@ -41,18 +46,19 @@ def text_of(item, size):
     return "[" + ",".join(items) + "]"
 
 
-def seconds(words, path):
-    """The least time of some runs."""
-    least = None
-    for _ in range(RUNS):
-        with open(path, "rb") as stdin:
-            process = subprocess.Popen(words, stdin=stdin, stdout=subprocess.DEVNULL)
-            _, status, usage = os.wait4(process.pid, 0)
-        if status != 0:
-            raise SystemExit(f"{words[0]} ended with {status}")
-        took = usage.ru_utime + usage.ru_stime
-        least = took if least is None else min(least, took)
-    return least
+def once(words, path):
+    """The time of one run."""
+    with open(path, "rb") as stdin:
+        process = subprocess.Popen(words, stdin=stdin, stdout=subprocess.DEVNULL)
+        _, status, usage = os.wait4(process.pid, 0)
+    if status != 0:
+        raise SystemExit(f"{words[0]} ended with {status}")
+    return usage.ru_utime + usage.ru_stime
+
+
+def seconds(ways, path):
+    """The least time of some runs of each way, in turns."""
+    return [min(times) for times in zip(*([once(words, path) for words in ways] for _ in range(RUNS)))]
 
 
 def check(text, path):
@@ -65,13 +71,13 @@ def check(text, path):
 
 
 def measured(item, size, ways):
-    """The time of each of these ways over a text of about this size, and its length."""
+    """The time of each of these ways over a text of about this size."""
     with tempfile.NamedTemporaryFile("w", encoding="utf-8") as stored:
         text = text_of(item, size)
         stored.write(text)
         stored.flush()
         check(text, stored.name)
-        return [seconds(words, stored.name) for words in ways], os.path.getsize(stored.name)
+        return seconds(ways, stored.name)
 
 
 def inside(depth, size):
@@ -79,20 +85,22 @@ def inside(depth, size):
     with tempfile.NamedTemporaryFile("w", encoding="utf-8") as stored:
         stored.write('{"next":' * depth + json.dumps("x" * size) + "}" * depth)
         stored.flush()
-        return seconds([PROGRAM, "canon"], stored.name)
+        return seconds([[PROGRAM, "canon"]], stored.name)[0]
 
 
-def main():
+def figures():
+    canon, plain, peer = [PROGRAM, "canon"], [PLAIN, "json"], [[PEER]] if PEER else []
     for item in (deep, wide, strings):
-        (small,), _ = measured(item, MEGABYTES * 1000000 // 8, [[PROGRAM, "canon"]])
-        (large, plain), length = measured(item, MEGABYTES * 1000000, [[PROGRAM, "canon"], [PLAIN, "json"]])
-        print(
-            f"{item.__name__}: {length} bytes, {length / large / 1e6:.1f} MB/s, {large / plain:.2f} times serde_json,"
-            f" growth {large / small:.1f} for 8 times the text"
-        )
+        name, size = f"canon of {MEGABYTES} MB, {item.__name__}", MEGABYTES * 1000000
+        small, = measured(item, size // 8, [canon])
+        large, read, *others = measured(item, size, [canon, plain, *peer])
+        yield Figure(name, large / read, "reading and printing it by serde_json", 1.2)
+        yield from (Figure(name, large / other, "the Rust crates", 1) for other in others)
+        yield Figure(name, large / small / 8, "eight of an eighth", 1.1)
     size = MEGABYTES * 1000000 // 2
-    print(f"a text of {size} bytes inside {NESTED} objects: {inside(NESTED, size) / inside(1, size):.1f} times inside one")
+    nested = inside(NESTED, size) / inside(1, size)
+    yield Figure(f"canon of a text inside {NESTED} objects", nested, "the same inside one", 1.2)
 
 
 if __name__ == "__main__":
-    main()
+    sys.exit(page(figures))

@@ -2,18 +2,19 @@
 """Measures how long a manifest of many layers takes to be read and written back by its table.
 
 Time is told in runs of the same program that reads and prints it as plain JSON, within one run, and as the growth to eight
-times the layers, where 8 is linear.
+times the layers, divided by 8.
 """
 import json
 import os
-import subprocess
+import sys
 import tempfile
-import time
+
+from figures import Figure, page
+from run import in_turns
 
 HERE = os.path.dirname(os.path.abspath(__file__))
 PROGRAM = os.path.join(HERE, "../crates/timed_calls/out/timed_calls")
 LAYERS = 10000
-RUNS = 9
 
 
 def descriptor(media_type, number, size):
@@ -27,38 +28,25 @@ def manifest(count):
     return {"schemaVersion": 2, "mediaType": media_type, "config": config, "layers": layers}
 
 
-def measured(word, path):
-    """The least time of some runs in seconds, and what was written."""
-    times = []
-    for _ in range(RUNS):
-        with open(path, "rb") as stdin:
-            begun = time.monotonic()
-            written = subprocess.run([PROGRAM, word], stdin=stdin, stdout=subprocess.PIPE, check=True).stdout
-        times.append(time.monotonic() - begun)
-    return min(times), written
-
-
 def compared(count):
-    """The times by the table and as plain JSON of a manifest of this many layers, and its length."""
+    """The times by the table and as plain JSON of a manifest of this many layers."""
     text = json.dumps(manifest(count), separators=(",", ":"))
     with tempfile.NamedTemporaryFile("w") as case:
         case.write(text)
         case.flush()
-        documents, written = measured("documents", case.name)
-        plain, printed = measured("json", case.name)
+        (documents, _, written), (plain, _, printed) = in_turns([[PROGRAM, "documents"], [PROGRAM, "json"]], case.name)
     if written != printed or json.loads(written) != manifest(count):
         raise SystemExit("the manifest is not written back")
-    return documents, plain, len(text)
+    return documents, plain
 
 
-def main():
-    documents, plain, length = compared(LAYERS)
-    more, _, _ = compared(8 * LAYERS)
-    print(
-        f"{LAYERS} layers, {length} bytes: {documents / plain:.2f} times reading and printing plain JSON,"
-        f" growth {more / documents:.1f} for 8 times the layers"
-    )
+def figures():
+    documents, plain = compared(LAYERS)
+    more, _ = compared(8 * LAYERS)
+    ratio = documents / plain
+    yield Figure(f"a manifest of {LAYERS} layers, read and written", ratio, "reading and printing plain JSON")
+    yield Figure(f"one of {8 * LAYERS}", more / documents / 8, "eight of it", 1.1)
 
 
 if __name__ == "__main__":
-    main()
+    sys.exit(page(figures))

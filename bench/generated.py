@@ -3,8 +3,10 @@
 bytes of its layers once.
 """
 import os
+import sys
 import tempfile
 
+from figures import Figure, page
 from run import PROGRAM, measured
 
 LAYERS = 1000
@@ -25,18 +27,17 @@ def pulled(count):
     return time, memory
 
 
-def main():
+def figures():
     small, _ = pulled(LAYERS // 10)
     large, memory = pulled(LAYERS)
     with tempfile.NamedTemporaryFile() as file:
         size = sum(file.write(layer) for layer in layers())
         file.flush()
         hashed, _, _ = measured(["sha256sum"], file.name)
-    print(
-        f"{LAYERS} layers, generated: {large / (10 * small):.2f} times ten pulls of {LAYERS // 10},"
-        f" {large / hashed:.2f} times hashing their bytes once, {memory / size:.2f} bytes held for each of theirs"
-    )
+    yield Figure(f"a pull of {LAYERS} generated layers", large / (10 * small), f"ten of {LAYERS // 10}", 1.1)
+    yield Figure("the same", large / hashed, "hashing their bytes once")
+    yield Figure("its memory", memory / size, "bytes held for each of their bytes")
 
 
 if __name__ == "__main__":
-    main()
+    sys.exit(page(figures))

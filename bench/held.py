@@ -1,5 +1,5 @@
 #!/usr/bin/env python3
-"""Runs a program once, and tells how long it took and how much memory it held.
+"""Runs a program once, and tells how much time of the processor it took and how much memory it held.
 
     held.py STDIN WORD ..      what the program writes goes out; the last line on standard error is `SECONDS BYTES STATUS`
 
@@ -8,15 +8,13 @@ It stands alone so that it is small: the memory that a process is said to have h
 import os
 import subprocess
 import sys
-import time
 
 
 def main():
     with open(sys.argv[1], "rb") as stdin:
-        begun = time.monotonic()
         process = subprocess.Popen(sys.argv[2:], stdin=stdin)
         _, status, usage = os.wait4(process.pid, 0)
-    print(f"{time.monotonic() - begun} {usage.ru_maxrss * 1024} {os.waitstatus_to_exitcode(status)}", file=sys.stderr)
+    print(f"{usage.ru_utime + usage.ru_stime} {usage.ru_maxrss * 1024} {os.waitstatus_to_exitcode(status)}", file=sys.stderr)
 
 
 if __name__ == "__main__":

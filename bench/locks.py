@@ -2,8 +2,10 @@
 """Measures the check of a lock file of 1000 entries: in times of `canon` over the same bytes, in ten checks of 100, and the bytes held for each byte."""
 import json
 import os
+import sys
 import tempfile
 
+from figures import Figure, page
 from run import PROGRAM, measured
 
 HERE = os.path.dirname(os.path.abspath(__file__))
@@ -33,14 +35,18 @@ def timed(word, text, wanted):
     return time, memory
 
 
-def main():
+def figures():
     whole, text = locks(ENTRIES)
-    check, held = timed("lockcheck", whole, b"lock holds")
+    check, _ = timed("lockcheck", whole, b"lock holds")
     parts = 10 * timed("lockcheck", locks(ENTRIES // 10)[0], b"lock holds")[0]
     canon, _ = timed("canon", text, b"{")
-    print(f"a lock file of {ENTRIES} entries and {len(text)} bytes: checked in {check / canon:.2f} times canon over it, {check / parts:.2f} times ten checks of {ENTRIES // 10}, "
-          f"{held / len(whole):.2f} bytes held for each byte of the input")
+    yield Figure(f"the check of a lock file of {ENTRIES} entries", check / canon, "canon over it", 4)
+    yield Figure("the same", check / parts, f"ten checks of {ENTRIES // 10}", 1.2)
+    # Both hold more than the process that measures, below which nothing is told.
+    long, short = locks(4 * ENTRIES)[0], locks(2 * ENTRIES)[0]
+    held = timed("lockcheck", long, b"lock holds")[1] - timed("lockcheck", short, b"lock holds")[1]
+    yield Figure("its memory", held / (len(long) - len(short)), "bytes held for each byte of the input", 5)
 
 
 if __name__ == "__main__":
-    main()
+    sys.exit(page(figures))

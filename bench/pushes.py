@@ -6,32 +6,32 @@ An image of 1000 layers: in ten pushes of one of 100. A list of 100000 tags: in 
 for each of its bytes.
 """
 import os
-import tempfile
+import sys
 
-from run import measured
+from figures import Figure, page
+from run import in_turns
 
 HERE = os.path.dirname(os.path.abspath(__file__))
 PROGRAM = os.path.join(HERE, "../crates/timed_calls/out/timed_calls")
 TAG = len('"1.22.333-slim",')
 
 
-def timed(word, count):
-    """The time and the memory of a word over so many."""
-    with tempfile.NamedTemporaryFile("w") as nothing:
-        time, memory, _ = measured([PROGRAM, word, str(count)], nothing.name)
-    return time, memory
+def timed(*words):
+    """The time and the memory of each of these words, each with so many."""
+    ways = [[PROGRAM, word, str(count)] for word, count in words]
+    return [(time, memory) for time, memory, _ in in_turns(ways, os.devnull)]
 
 
-def main():
-    _, least = timed("push", 4)
-    push, memory = timed("push", 256)
-    copy, _ = timed("copy", 256)
-    print(f"a blob of 256 MiB pushed: {push / copy:.2f} times copying it once, {memory - least} bytes held beside what one of 4 MiB holds")
-    many, few = timed("layers", 1000)[0], timed("layers", 100)[0]
-    print(f"an image of 1000 layers pushed: {many / (10 * few):.2f} times ten of 100")
-    (long, held), (short, less) = timed("tags", 100), timed("tags", 10)
-    print(f"a list of 100000 tags: {long / (10 * short):.2f} times ten of 10000, {(held - less) / (90 * 1000 * TAG):.2f} bytes held for each of its bytes")
+def figures():
+    (_, least), (push, memory), (copy, _) = timed(("push", 4), ("push", 256), ("copy", 256))
+    yield Figure("a push of a blob of 256 MiB", push / copy, "copying it once", 1.3)
+    yield Figure("its memory", (memory - least) / (1 << 20), "MiB held beside what one of 4 MiB holds", 1)
+    (many, _), (few, _) = timed(("layers", 1000), ("layers", 100))
+    yield Figure("a push of an image of 1000 layers", many / (10 * few), "ten of 100", 1.2)
+    (long, held), (short, less) = timed(("tags", 100), ("tags", 10))
+    yield Figure("a list of 100000 tags", long / (10 * short), "ten of 10000", 1.1)
+    yield Figure("its memory", (held - less) / (90 * 1000 * TAG), "bytes held for each of its bytes", 4)
 
 
 if __name__ == "__main__":
-    main()
+    sys.exit(page(figures))

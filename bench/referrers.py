@@ -5,8 +5,10 @@ A registry in memory lists 100 and then 1000 referrers of one bundle each. The t
 longer list is told in ten times that of the shorter: 1.0 is linear growth.
 """
 import json
+import sys
 import tempfile
 
+from figures import Figure, page
 from run import PROGRAM, measured, rows
 
 SHORT, LONG = 100, 1000
@@ -34,7 +36,7 @@ def timed(stdin):
         return measured([PROGRAM, "pull"], case.name)
 
 
-def main():
+def figures():
     make = rows()
     times = {}
     for count in (SHORT, LONG):
@@ -43,8 +45,8 @@ def main():
         if written.decode().split("\n")[-2] != "signature " + make.digest(stands):
             raise SystemExit("the image is not pulled")
     growth = times[LONG] / times[SHORT] / (LONG / SHORT)
-    print(f"{LONG} referrers: {growth:.2f} times as long a referrer as of {SHORT}")
+    yield Figure(f"a search among {LONG} referrers", growth, f"{LONG // SHORT} among {SHORT}", 1.2)
 
 
 if __name__ == "__main__":
-    main()
+    sys.exit(page(figures))

@@ -3,8 +3,10 @@
 
 A Pod of 100 images is reviewed over a registry in memory whose image has a layer of 1 MiB, and ten times one of 10.
 """
+import sys
 import tempfile
 
+from figures import Figure, page
 from run import PROGRAM, measured, rows
 
 SIZE, IMAGES = 1 << 20, 100
@@ -30,12 +32,13 @@ def timed(make, images):
     return time, memory
 
 
-def main():
+def figures():
     make = rows()
     whole, held = timed(make, IMAGES)
     parts = sum(timed(make, IMAGES // 10)[0] for _ in range(10))
-    print(f"a review of {IMAGES} images of {SIZE >> 20} MiB takes {whole / parts:.2f} times what ten of {IMAGES // 10} take, and holds {held >> 20} MiB")
+    yield Figure(f"a review of {IMAGES} images of {SIZE >> 20} MiB", whole / parts, f"ten of {IMAGES // 10}", 1.2)
+    yield Figure("its memory", held / (1 << 20), "MiB held")
 
 
 if __name__ == "__main__":
-    main()
+    sys.exit(page(figures))

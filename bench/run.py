@@ -12,8 +12,10 @@ import tempfile
 # Nothing is left beside the recorded cases.
 sys.dont_write_bytecode = True
 
+from figures import Figure, page  # noqa: E402
+
 HERE = os.path.dirname(os.path.abspath(__file__))
-PROGRAM = os.path.join(HERE, "../crates/pull_program/out/pull_program")
+PROGRAM = os.environ.get("PROGRAM") or os.path.join(HERE, "../crates/pull_program/out/pull_program")
 MEGABYTES = (24, 48)
 RUNS = 5
 
@@ -33,17 +35,24 @@ def large_case(size):
     return make.base_case()
 
 
+def once(words, path):
+    """The time of a run in seconds, its memory in bytes, and what was written."""
+    run = subprocess.run([sys.executable, os.path.join(HERE, "held.py"), path, *words], capture_output=True, check=True)
+    seconds, held, status = run.stderr.split()[-3:]
+    if int(status) != 0:
+        raise SystemExit(f"{words[0]} ended with {int(status)}")
+    return float(seconds), int(held), run.stdout
+
+
+def in_turns(ways, path):
+    """Of each of these ways, each run some times in turns: the least time, the most memory, and what was written."""
+    runs = zip(*([once(words, path) for words in ways] for _ in range(RUNS)))
+    return [(min(times), max(memory), written[-1]) for times, memory, written in (zip(*turns) for turns in runs)]
+
+
 def measured(words, path):
-    """The least time of some runs in seconds, the most memory of one in bytes, and what was written."""
-    times, memory, written = [], 0, b""
-    for _ in range(RUNS):
-        run = subprocess.run([sys.executable, os.path.join(HERE, "held.py"), path, *words], capture_output=True, check=True)
-        seconds, held, status = run.stderr.split()[-3:]
-        if int(status) != 0:
-            raise SystemExit(f"{words[0]} ended with {int(status)}")
-        times.append(float(seconds))
-        memory, written = max(memory, int(held)), run.stdout
-    return min(times), memory, written
+    """The same of one way."""
+    return in_turns([words], path)[0]
 
 
 def report(size):
@@ -51,19 +60,17 @@ def report(size):
     with tempfile.NamedTemporaryFile("w") as case:
         case.write(stdin)
         case.flush()
-        pulled, memory, written = measured([PROGRAM, "pull"], case.name)
-        hashed, _, _ = measured(["sha256sum"], case.name)
+        (pulled, memory, written), (hashed, _, _) = in_turns([[PROGRAM, "pull"], ["sha256sum"]], case.name)
     if written.decode() != "".join(f"{line}\n" for line in lines):
         raise SystemExit("the report is not the one that the case asks for")
-    print(f"a case of {len(stdin)} bytes with one layer of {size} MiB")
-    print(f"time: {pulled / hashed:.1f} times that of sha256sum over the case")
-    print(f"memory: {memory / len(stdin):.2f} bytes held at once for each byte of the case")
+    yield Figure(f"a pull of a case with a layer of {size} MiB", pulled / hashed, "sha256sum over the case", 1.3)
+    yield Figure("its memory", memory / len(stdin), "bytes held at once for each byte of the case", 2)
 
 
-def main():
+def figures():
     for size in MEGABYTES:
-        report(size)
+        yield from report(size)
 
 
 if __name__ == "__main__":
-    main()
+    sys.exit(page(figures))

@@ -1,11 +1,14 @@
 #!/usr/bin/env python3
 """Measures how the search grows with the layers of a signature manifest, as a ratio within one run.
 
-A manifest has 100 and then 1000 signature layers of four kilobytes each, of which the last one alone satisfies the policy. The time
-of the longer one is told in ten times that of the shorter: 1.0 is linear growth.
+A manifest has 100 and then 1000 signature layers of four kilobytes each, of which the last one alone satisfies the policy.
+The time of the longer one is told in ten times that of the shorter: 1.0 is linear growth. Each layer has a signature of its
+own: the table of a case hashes a message once for each row that has its key and its signature.
 """
+import sys
 import tempfile
 
+from figures import Figure, page
 from run import PROGRAM, measured, rows
 
 SHORT, LONG = 100, 1000
@@ -13,10 +16,12 @@ SHORT, LONG = 100, 1000
 
 def case_of(make, count):
     payloads = [make.payload({"n": str(n), "filling": "x" * 4096}) for n in range(count)]
-    answers, asked = make.search(make.manifest("{}", [make.signed(p) for p in payloads]), payloads)
+    signed = [make.signed(p, f"sig{n}") for n, p in enumerate(payloads)]
+    rows = [{"key": "k1", "message": make.digest(p), "signature": f"sig{n}"} for n, p in enumerate(payloads)]
+    answers, asked = make.search(make.manifest("{}", signed), payloads)
     answers += make.served(make.IMAGE) + make.served("{}") + make.served(make.CONTENT)
     last = [{"annotations": {"n": str(count - 1)}}]
-    return make.case(answers, payloads, last), asked
+    return make.case(answers, (), last, signatures=rows), asked
 
 
 def timed(stdin):
@@ -26,7 +31,7 @@ def timed(stdin):
         return measured([PROGRAM, "pull"], case.name)
 
 
-def main():
+def figures():
     make = rows()
     times = {}
     for count in (SHORT, LONG):
@@ -35,8 +40,8 @@ def main():
         if not written.decode().startswith("\n".join(["moment 100"] + asked)):
             raise SystemExit("the requests are not those that the case asks for")
     growth = times[LONG] / times[SHORT] / (LONG / SHORT)
-    print(f"a signature manifest of {LONG} layers: {growth:.2f} times as long a layer as one of {SHORT}")
+    yield Figure(f"a signature manifest of {LONG} layers", growth, f"{LONG // SHORT} of {SHORT}", 1.2)
 
 
 if __name__ == "__main__":
-    main()
+    sys.exit(page(figures))
