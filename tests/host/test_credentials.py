@@ -15,6 +15,11 @@ def pair(text):
     return {"auth": base64.b64encode(text.encode()).decode()}
 
 
+def given(handler):
+    """The credentials of a registry's requests, but for `/v2/`, which is asked for the challenge and gets none."""
+    return {headers.get("authorization") for _, path, headers in handler.seen if path != "/v2/"}
+
+
 class Files(WithFolder):
     def setUp(self):
         super().setUp()
@@ -113,22 +118,22 @@ class Files(WithFolder):
             self.keep(credHelpers={place: "one"})
             status, _, err = self.pull(place, env={"PATH": os.environ["PATH"]})
             self.assertEqual((status, err), (0, ""))
-            self.assertEqual({headers.get("authorization") for _, _, headers in handler.seen}, {"Basic " + base64.b64encode(b"one:two").decode()})
+            self.assertEqual(given(handler), {"Basic " + base64.b64encode(b"one:two").decode()})
 
     def test_they_go_to_their_registry_alone(self):
         with registry() as (place, handler), registry() as (other, others):
             self.keep({place: pair("kept:secret")})
             self.assertEqual(self.pull(place)[0], 0)
-            self.assertEqual({headers.get("authorization") for _, _, headers in handler.seen}, {"Basic " + pair("kept:secret")["auth"]})
+            self.assertEqual(given(handler), {"Basic " + pair("kept:secret")["auth"]})
             self.assertEqual(self.pull(other, out="other")[0], 0)
-            self.assertEqual({headers.get("authorization") for _, _, headers in others.seen}, {None})
+            self.assertEqual(given(others), {None})
             handler.seen.clear()
             self.run_it("verify", f"{place}/app:v1", "--key", str(self.key), "--username", "u", "--password-stdin", stdin="p:q\n")
-            self.assertEqual({headers.get("authorization") for _, _, headers in handler.seen}, {"Basic " + pair("u:p:q")["auth"]})
+            self.assertEqual(given(handler), {"Basic " + pair("u:p:q")["auth"]})
             handler.seen.clear()
             self.keep({place: pair("named:secret")}, self.folder / "named.json")
             self.run_it("verify", f"{place}/app:v1", "--key", str(self.key), "--authfile", "named.json")
-            self.assertEqual({headers.get("authorization") for _, _, headers in handler.seen}, {"Basic " + pair("named:secret")["auth"]})
+            self.assertEqual(given(handler), {"Basic " + pair("named:secret")["auth"]})
 
 
 if __name__ == "__main__":
