@@ -21,11 +21,11 @@ abbrev pub by_names : Data → Data
 by_names = arranged by_units
 
 -- the members with their texts
-abbrev texts_of : Members → List Entry
+abbrev pub texts_of : Members → List Entry
 texts_of no_members = []
 texts_of (member k d ms) = (k, compact_text d) ∷ texts_of ms
 
-abbrev item_texts : Items → List (List ℕ)
+abbrev pub item_texts : Items → List (List ℕ)
 item_texts no_items = []
 item_texts (item d ds) = compact_text d ∷ item_texts ds
 
@@ -35,7 +35,7 @@ items_joined : (d : Data) (ds : Items) → items_text false (item d ds) ≡ join
 items_joined d no_items = refl
 items_joined d (item e es) = ap (λ s. compact_text d ++ 44 ∷ s) (items_joined e es) ∙ sym (append_assoc (compact_text d) (44 ∷ join_with_byte 44 (compact_text e ∷ item_texts es)) (93 ∷ []))
 
-array_compact : (ds : Items) → compact_text (array ds) ≡ array_text (item_texts ds)
+pub array_compact : (ds : Items) → compact_text (array ds) ≡ array_text (item_texts ds)
 array_compact no_items = refl
 array_compact (item d ds) = ap (λ s. 91 ∷ s) (items_joined d ds)
 
@@ -48,7 +48,7 @@ members_joined k d (member l e ms) =
     one_member k d (44 ∷ members_text false (member l e ms)) ∙ ap (λ s. entry_text (k, compact_text d) ++ 44 ∷ s) (members_joined l e ms)
     ∙ sym (append_assoc (entry_text (k, compact_text d)) (44 ∷ join_with_byte 44 (map entry_text ((l, compact_text e) ∷ texts_of ms))) (125 ∷ []))
 
-object_compact : (ms : Members) → compact_text (object ms) ≡ object_text (texts_of ms)
+pub object_compact : (ms : Members) → compact_text (object ms) ≡ object_text (texts_of ms)
 object_compact no_members = refl
 object_compact (member k d ms) = ap (λ s. 123 ∷ s) (members_joined k d ms)
 
@@ -118,7 +118,7 @@ whole_text : (z : ℤ) → number_text (whole z) ≡ signed_decimal z
 whole_text (pos n) = refl
 whole_text (negsuc n) = refl
 
-truth_compact : (b : Bool) → compact_text (boolean b) ≡ truth_text b
+pub truth_compact : (b : Bool) → compact_text (boolean b) ≡ truth_text b
 truth_compact true = refl
 truth_compact false = refl
 

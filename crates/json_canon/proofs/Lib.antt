@@ -3,6 +3,7 @@ pub mod Feeds
 pub mod Maps
 pub mod MemberOrders
 pub mod PipedBack
+pub mod Plains
 pub mod Puts
 pub mod ReadBack
 pub mod Refusals

@@ -36,7 +36,7 @@ items_next all d ds left plain value = record {
 pub items_refused : (all : Items) (d : Data) (ds : Items) (e : CanonError) → ItemsLeft all (item d ds) → refused d ≡ Some e → refused_items all ≡ Some e
 items_refused all d ds e left is = left.first ∙ ap (λ r. first_of_two r (refused_items ds)) is
 
-different : (a b : List ℕ) → slice_cmp nat_cmp a b ≡ Less → a ≢ b
+pub different : (a b : List ℕ) → slice_cmp nat_cmp a b ≡ Less → a ≢ b
 different a b less same = let tied = tied_itself nat_list_cmp_total a in let is = ap (slice_cmp nat_cmp a) same in cc
 
 pub others : (k : String Global) (es : List (String Global × Value)) → AllByRecursion (λ y. string_cmp k y ≡ Less) (map (λ e. e.0) es) → IsOther (string_bytes k) (members_view es)

@@ -1,6 +1,7 @@
 pub mod AsMaps
 pub mod Feeding
 pub mod Outcomes
+pub mod Plain
 pub mod Serializers
 pub mod TextLaws
 pub use Rattle.json_events.specs.Canonical

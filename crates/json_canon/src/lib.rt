@@ -3,6 +3,7 @@
 
 mod feed;
 mod laws;
+mod plain;
 mod serializer;
 mod walk;
 mod whole;

@@ -50,7 +50,7 @@ fn refusal_of_members(members: &Map<String, Value>) -> Option<CanonError>
     None
 }
 
-fn refused_number(number: &Number) -> Option<CanonError>
+pub(crate) fn refused_number(number: &Number) -> Option<CanonError>
     ensures { result ≡ refused_by (as_integer (number_view number.now)) }
 {
     match number.as_i128() {

@@ -2,10 +2,12 @@
 ghost use Rattle.std.specs.Prelude.{◌≤◌, IfOk, OnOk, IsUtf8};
 ghost use Rattle.serde_json.specs.View.{view};
 ghost use Rattle.json_canon.specs.Outcomes.{GivesText, WritesText, PipesText};
+ghost use Rattle.json_canon.specs.Plain.{IsPlain};
 ghost use Rattle.json_canon.specs.TextLaws.{PipesBack};
 ghost use Rattle.json_events.specs.Values.{IsValue};
 
 use crate::feed::feed;
+use crate::plain::is_plain;
 use crate::walk::refusal;
 use byte_streams::{PlainSink, Sink};
 use json_events::{CanonError, JcsFormatter};
@@ -98,6 +100,31 @@ fn put_text<K: Sink>(alloc: Global, sink: &mut K, value: &Value) -> Result<(), C
 }
 
 fn text_of(alloc: Global, value: &Value) -> Result<Blob, CanonError>
+    ensures text { GivesText result (view value.now) }
+    ensures value { OnOk result (IsValue (view value.now)) }
+    ensures utf8 { IfOk result (λ t. IsUtf8 t) }
+{
+    if is_plain(value) {
+        let text = plain_text(alloc, value);
+        return text;
+    }
+    let text = fed_text(alloc, value);
+    text
+}
+
+/// Returns the compact text of a value for which it is the canonical one.
+fn plain_text(alloc: Global, value: &Value) -> Result<Blob, CanonError>
+    requires { IsPlain (view value.now) }
+    ensures text { GivesText result (view value.now) }
+    ensures value { OnOk result (IsValue (view value.now)) }
+    ensures utf8 { IfOk result (λ t. IsUtf8 t) }
+{
+    let bytes = value.to_vec(alloc)?;
+    Ok(Blob::from_vec(bytes))
+}
+
+/// Returns the text of a value as its events.
+fn fed_text(alloc: Global, value: &Value) -> Result<Blob, CanonError>
     ensures text { GivesText result (view value.now) }
     ensures value { OnOk result (IsValue (view value.now)) }
     ensures utf8 { IfOk result (λ t. IsUtf8 t) }

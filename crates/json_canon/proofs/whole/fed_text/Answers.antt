@@ -2,7 +2,7 @@ use Rattle.std.proofs.Common.{refl}
 use Rattle.serde_json.specs.View.{view}
 use Rattle.json_canon.proofs.Puts.{plain_refusal, put_into_none, handed_text}
 use Rattle.json_canon.proofs.Texts.{canonical_utf8}
-use Rattle.json_canon.proofs.whole.text_of.Goals as goal
+use Rattle.json_canon.proofs.whole.fed_text.Goals as goal
 
 pub returns-in_err-put_text-clause-text : goal.returns-in_err-put_text-clause-text
 returns-in_err-put_text-clause-text c =
