@@ -122,12 +122,3 @@ case_ready d =
 pub case_timed : (d : Data) → IfSome (case_of d) (λ case. 0 < length case.moments)
 case_timed d =
     follows _ _ (case_of d) (members_of d) (λ case h. has_moments (get (codes "moments") d) case.moments h.1)
-
--- the same for the case in JSON data
-pub json_ready : (o : Option Data) → IfSome (o >>= case_of) IsReady
-json_ready None = tt
-json_ready (Some d) = case_ready d
-
-pub json_timed : (o : Option Data) → IfSome (o >>= case_of) (λ case. 0 < length case.moments)
-json_timed None = tt
-json_timed (Some d) = case_timed d

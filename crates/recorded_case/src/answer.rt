@@ -33,7 +33,7 @@ impl Entry for Recorded {
 }
 
 // A send that fails.
-fn failing(alloc: Global) -> Recorded
+pub(crate) fn failing(alloc: Global) -> Recorded
     ensures { result ≡ failing }
 {
     Recorded {
@@ -67,7 +67,7 @@ fn read_answer(alloc: Global, value: &Value) -> Result<Recorded, ReadError>
 }
 
 // The status, an integer from 100 to 999.
-fn read_status(alloc: Global, value: &Value) -> Result<u16, ReadError>
+pub(crate) fn read_status(alloc: Global, value: &Value) -> Result<u16, ReadError>
     ensures { ReadsTo result (required status_of (codes "status") (view value.now)) }
 {
     let status: u16 = required(alloc, value, "status")?;
@@ -88,7 +88,7 @@ fn read_pieces(alloc: Global, value: &Value) -> Result<List<Blob>, ReadError>
 }
 
 // Before how many pieces a call fails; never if the member is absent.
-fn read_fault(alloc: Global, value: &Value) -> Result<Option<u64>, ReadError>
+pub(crate) fn read_fault(alloc: Global, value: &Value) -> Result<Option<u64>, ReadError>
     ensures { ReadsTo result (at_name (unless_absent None number_of) (codes "fault") (view value.now)) }
 {
     match value.get("fault") {
@@ -98,7 +98,7 @@ fn read_fault(alloc: Global, value: &Value) -> Result<Option<u64>, ReadError>
 }
 
 // Whether no piece is empty.
-fn are_full(pieces: &[Blob]) -> bool
+pub(crate) fn are_full(pieces: &[Blob]) -> bool
     ensures { IsTrue result ↔ NoneEmpty pieces.now }
 {
     pieces.iter().all(|piece| !piece.as_slice().is_empty())

@@ -1,14 +1,18 @@
-ghost use Rattle.std.specs.Prelude.{◌≡◌, ◌<◌, IfOk, IfSome, length};
-ghost use Rattle.recorded_case.specs.Case.{case_in, IsReady};
+ghost use Rattle.std.specs.Prelude.{◌≡◌, ◌<◌, IfOk, IfSome, length, option_map};
+ghost use Rattle.serde_json.specs.View.{view};
+ghost use Rattle.json_values.specs.JsonText.{json_of, plain_json_of};
+ghost use Rattle.json_tables.specs.Outcomes.{ReadsTo};
+ghost use Rattle.recorded_case.specs.Case.{case_in, case_of, IsReady};
 
 use crate::constraint::WrittenConstraint;
 use crate::entries::{Entries, OrUsual};
 use crate::members::{Moments, ReferenceText};
+use crate::moved::take_registry;
 use crate::platform::Platform;
 use crate::registry::{Registry, read_registry};
 use cosign_parts::{LogKeys, SignedRow, TableJudge};
 use engine_terms::ClientProtocol;
-use json_tables::{ReadError, Reads, only, read_plain, read_row};
+use json_tables::{ReadError, Reads, holds_float, only, read_row};
 use json_values::{Blob, List, Text, row};
 use oci_auth::RegistryAuth;
 use oci_descriptors::PlatformResolver;
@@ -98,47 +102,115 @@ type Protocol = (OrUsual<ClientProtocol>, Auth);
 
 type Members = (ReferenceText, Protocol);
 
-impl Reads for Case {
-    ghost use Rattle.recorded_case.specs.Case.{case_of};
+// The case with these members and this registry.
+fn case_with(members: Members, registry: Registry) -> Case
+    ensures { result ≡ record {
+      reference = members.0;
+      protocol = members.1.0;
+      auth = members.1.1.0;
+      accepted = members.1.1.1.0;
+      platform = members.1.1.1.1.0;
+      caching = members.1.1.1.1.1.0;
+      moments = members.1.1.1.1.1.1.0;
+      limit = members.1.1.1.1.1.1.1.0;
+      keys = members.1.1.1.1.1.1.1.1.0;
+      constraints = members.1.1.1.1.1.1.1.1.1.0;
+      log_keys = members.1.1.1.1.1.1.1.1.1.1.0;
+      signatures = members.1.1.1.1.1.1.1.1.1.1.1.0;
+      vouched = members.1.1.1.1.1.1.1.1.1.1.1.1.0;
+      registry = registry;
+    } }
+{
+    let row![
+        reference,
+        protocol,
+        auth,
+        accepted,
+        platform,
+        caching,
+        moments,
+        limit,
+        keys,
+        constraints,
+        log_keys,
+        signatures,
+        vouched
+    ] = members;
+    Case {
+        reference: reference.text,
+        protocol: protocol.value,
+        auth: auth.value,
+        accepted,
+        platform: platform.resolver,
+        caching: caching.value,
+        moments: moments.list,
+        limit: limit.value,
+        keys,
+        constraints: constraints.list,
+        log_keys: log_keys.value,
+        signatures: signatures.list,
+        vouched: vouched.value,
+        registry,
+    }
+}
 
+impl Reads for Case {
     ghost reading = { case_of };
 
     #[tactic(auto, unfolding(crate::specs::Case::case_of))]
     fn read_value(alloc: Global, value: &Value) -> Result<Case, ReadError> {
         only(value, NAMES)?;
         let registry = read_registry(alloc, value)?;
-        let row![
-            reference,
-            protocol,
-            auth,
-            accepted,
-            platform,
-            caching,
-            moments,
-            limit,
-            keys,
-            constraints,
-            log_keys,
-            signatures,
-            vouched
-        ]: Members = read_row::<Case, _>(alloc, value, NAMES)?;
-        Ok(Case {
-            reference: reference.text,
-            protocol: protocol.value,
-            auth: auth.value,
-            accepted,
-            platform: platform.resolver,
-            caching: caching.value,
-            moments: moments.list,
-            limit: limit.value,
-            keys,
-            constraints: constraints.list,
-            log_keys: log_keys.value,
-            signatures: signatures.list,
-            vouched: vouched.value,
-            registry,
-        })
+        let members: Members = read_row::<Case, _>(alloc, value, NAMES)?;
+        Ok(case_with(members, registry))
     }
+}
+
+// Reads a case as `read_value` does, and leaves the value unusable: the bodies of recorded answers are moved out of it.
+#[tactic(auto, unfolding(crate::specs::Case::case_of))]
+fn take_case(alloc: Global, value: &mut Value) -> Result<Case, ReadError>
+    ensures { ReadsTo result (case_of (view value.old)) }
+{
+    only(value, NAMES)?;
+    let members: Members = read_row::<Case, _>(alloc, value, NAMES)?;
+    let registry = take_registry(alloc, value)?;
+    Ok(case_with(members, registry))
+}
+
+// The case in a JSON value without floats.
+fn case_of_value(alloc: Global, value: Value) -> Result<Option<Case>, AllocError>
+    ensures { IfOk result (λ found. found ≡ case_of (view value)) }
+{
+    let mut value = value;
+    match take_case(alloc, &mut value) {
+        Ok(case) => Ok(Some(case)),
+        Err(ReadError::Shape) => Ok(None),
+        Err(_) => Err(AllocError),
+    }
+}
+
+// Parses JSON, as `read_json` does.
+fn json_value(alloc: Global, bytes: &[u8]) -> Result<Option<Value>, AllocError>
+    ensures { IfOk result (λ found. option_map view found ≡ json_of bytes.now) }
+{
+    match Value::from_slice(alloc, bytes) {
+        Ok(value) => Ok(Some(value)),
+        Err(error) if error.is_memory() => Err(AllocError),
+        Err(_) => Ok(None),
+    }
+}
+
+// Parses JSON without floats, as `read_plain_json` does.
+fn plain_value(alloc: Global, bytes: &[u8]) -> Result<Option<Value>, AllocError>
+    ensures { IfOk result (λ found. option_map view found ≡ plain_json_of bytes.now) }
+{
+    let Some(value) = json_value(alloc, bytes)? else {
+        return Ok(None);
+    };
+    if holds_float(&value) {
+        return Ok(None);
+    }
+    Ok(Some(value))
 }
 
 /// Parses a case. Returns `None` if and only if the bytes are not a JSON text (RFC 8259) with at most 127 levels of
@@ -148,6 +220,9 @@ pub fn read_case(alloc: Global, bytes: &[u8]) -> Result<Option<Case>, AllocError
     ensures ready { IfOk result (λ found. IfSome found IsReady) }
     ensures timed { IfOk result (λ found. IfSome found (λ case. 0 < length case.moments)) }
 {
-    let case = read_plain(alloc, bytes)?;
+    let Some(value) = plain_value(alloc, bytes)? else {
+        return Ok(None);
+    };
+    let case = case_of_value(alloc, value)?;
     Ok(case)
 }

@@ -9,6 +9,7 @@ mod entries;
 mod faultless_shelf;
 mod headers;
 mod members;
+mod moved;
 mod platform;
 mod policy;
 mod registry;

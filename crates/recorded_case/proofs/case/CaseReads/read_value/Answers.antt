@@ -2,7 +2,7 @@ use Rattle.json_tables.proofs.Refusals.{passed_on, behind}
 use Rattle.recorded_case.specs.Case.{case_of}
 use Rattle.recorded_case.proofs.case.CaseReads.read_value.Goals as goal
 
-pub returns-in_err-reference : goal.returns-in_err-reference
+pub returns-in_err-members : goal.returns-in_err-members
 unfolding case_of
-returns-in_err-reference c =
-    passed_on _ _ _ (behind _ _ c.in_ok-only.ensures (behind _ _ c.in_ok-registry.ensures.reads (c.in_err-reference.ensures.refused _))) c.from_residual-in_err-reference.ensures
+returns-in_err-members c =
+    passed_on _ _ _ (behind _ _ c.in_ok-only.ensures (behind _ _ c.in_ok-registry.ensures.reads (c.in_err-members.ensures.refused _))) c.from_residual-in_err-members.ensures
