@@ -36,7 +36,7 @@ use Rattle.pull_admit.specs.Responses.{IsAllowed}
 use Rattle.pull_admit.specs.declared.decision.Decision.{Decision}
 use Rattle.pull_admit.specs.declared.decision.Decision.TheVariants.{Allow, Deny}
 use Rattle.pull_admit.specs.declared.decision.DenyCause.TheVariants.{NotAReference, Refused}
-use Rattle.pull_admit.specs.declared.images.ReviewImage.{ReviewImage}
+use Rattle.pod_reviews.specs.declared.images.ReviewImage.{ReviewImage}
 
 -- ---- a pull that is complete
 

@@ -28,7 +28,7 @@ use Rattle.pull_admit.specs.declared.decisions.Pulling.{Pulling}
 use Rattle.pull_admit.specs.declared.decision.Decision.{Decision}
 use Rattle.pull_admit.specs.declared.decision.Decision.TheVariants.{Allow, Deny}
 use Rattle.pull_admit.specs.declared.decision.DenyCause.TheVariants.{NotAReference, Refused}
-use Rattle.pull_admit.specs.declared.images.ReviewImage.{ReviewImage}
+use Rattle.pod_reviews.specs.declared.images.ReviewImage.{ReviewImage}
 
 -- ---- decisions
 

@@ -11,7 +11,7 @@ use Rattle.cosign_shelves.specs.Shelves.{WideShelf}
 use Rattle.pull_admit.specs.Decided.{PullTerms}
 use Rattle.pull_admit.specs.Responses.{IsAllowed}
 use Rattle.pull_admit.specs.declared.decision.Decision.{Decision}
-use Rattle.pull_admit.specs.declared.images.ReviewImage.{ReviewImage}
+use Rattle.pod_reviews.specs.declared.images.ReviewImage.{ReviewImage}
 
 -- the image is at this registry, if its text is a reference
 abbrev pub IsAtRegistry : List ℕ → ReviewImage → Type 0

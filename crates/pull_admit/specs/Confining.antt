@@ -8,7 +8,7 @@ use Rattle.engine_rows.specs.Confined.{Within}
 use Rattle.engine_rows.specs.Held.{pulling}
 use Rattle.registry_calls.specs.Clients.{Kept}
 use Rattle.pull_admit.specs.Decided.{PullTerms}
-use Rattle.pull_admit.specs.declared.images.ReviewImage.{ReviewImage}
+use Rattle.pod_reviews.specs.declared.images.ReviewImage.{ReviewImage}
 
 -- the exchanges of an image's part; without a reference there is none
 abbrev pub ConfinedFor : {V : Type 0} {H : V → Type 0} → PullTerms V H → Result Reference ParseError → Kept

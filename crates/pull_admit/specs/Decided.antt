@@ -23,7 +23,7 @@ use Rattle.cosign_rows.specs.declared.refusal.PullRefusal.{PullRefusal}
 use Rattle.pull_admit.specs.declared.decision.Decision.{Decision}
 use Rattle.pull_admit.specs.declared.decision.Decision.TheVariants.{Allow, Deny}
 use Rattle.pull_admit.specs.declared.decision.DenyCause.TheVariants.{NotAReference, Refused}
-use Rattle.pull_admit.specs.declared.images.ReviewImage.{ReviewImage}
+use Rattle.pod_reviews.specs.declared.images.ReviewImage.{ReviewImage}
 
 -- what each image is pulled with: the policy and whom it trusts, the client's settings and the moment, the credentials,
 -- and the accepted media types

@@ -1,4 +1,3 @@
-pub mod Asked
 pub mod Causes
 pub mod Complete
 pub mod Confining

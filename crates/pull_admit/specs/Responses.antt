@@ -5,12 +5,12 @@ use Rattle.json_values.specs.Canon.{quoted_text}
 use Rattle.json_tables.specs.Fields.{fields}
 use Rattle.pull_report.specs.Prints.{refusal_print}
 use Rattle.pull_report.specs.Words.{spaced}
-use Rattle.pull_admit.specs.declared.asked.Review.{Review}
+use Rattle.pod_reviews.specs.declared.asked.Review.{Review}
 use Rattle.pull_admit.specs.declared.decision.Decision.{Decision}
 use Rattle.pull_admit.specs.declared.decision.Decision.TheVariants.{Allow, Deny}
 use Rattle.pull_admit.specs.declared.decision.DenyCause.{DenyCause}
 use Rattle.pull_admit.specs.declared.decision.DenyCause.TheVariants.{NotAReference, Refused}
-use Rattle.pull_admit.specs.declared.images.ReviewImage.{ReviewImage}
+use Rattle.pod_reviews.specs.declared.images.ReviewImage.{ReviewImage}
 
 abbrev pub is_allowed : Decision → Bool
 is_allowed (Allow v) = true

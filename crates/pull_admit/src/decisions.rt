@@ -16,10 +16,9 @@ ghost use Rattle.pull_admit.specs.OneImage.{Decided, DecidedSoFar, Keeps, KeepsS
 ghost use Rattle.pull_admit.specs.OneImage.{decision_of, is_wanting, terms_in};
 ghost use Rattle.pull_admit.specs.declared.decision.Decision.TheVariants.{Deny};
 ghost use Rattle.pull_admit.specs.declared.decision.DenyCause.TheVariants.{NotAReference};
-ghost use Rattle.pull_admit.specs.declared.images.ReviewImage.{ReviewImage};
+ghost use Rattle.pod_reviews.specs.declared.images.ReviewImage.{ReviewImage};
 
 use crate::decision::{Decision, DenyCause};
-use crate::images::ReviewImage;
 use cosign_chain::VerifiedImage;
 use cosign_client::{Client, image_in};
 use cosign_layers::PullPolicy;
@@ -28,6 +27,7 @@ use cosign_rows::PullRefusal;
 use json_values::{Copied, List, Text};
 use oci_names::{ParseError, Reference};
 use oci_transport::Transport;
+use pod_reviews::ReviewImage;
 use sig_registry::{Auth, OciReference};
 use std::alloc::{AllocError, Global};
 

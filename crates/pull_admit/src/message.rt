@@ -4,8 +4,8 @@ ghost use Rattle.std.specs.List.{All};
 ghost use Rattle.pull_admit.specs.Responses.{all_allowed, cause_print, denial, denials, is_allowed, joined, message, IsAllowed};
 
 use crate::decision::{Decision, DenyCause};
-use crate::images::ReviewImage;
 use json_values::{Blob, Copied, List, Text};
+use pod_reviews::ReviewImage;
 use pull_report::Printed;
 use std::alloc::{AllocError, Global};
 

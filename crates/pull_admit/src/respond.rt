@@ -4,12 +4,12 @@ ghost use Rattle.serde_json.specs.View.{view};
 ghost use Rattle.json_events.specs.Canonical.{Canonical};
 ghost use Rattle.pull_admit.specs.Responses.{all_allowed, message, response_data, outcome_data, status_if, IsAllowed};
 
-use crate::asked::Review;
 use crate::decision::Decision;
 use crate::message::{all_allowed, message};
 use json_canon::to_string;
 use json_tables::{Field, Required, object};
 use json_values::{Json, List, Text};
+use pod_reviews::Review;
 use serde_json::{Map, Value, put};
 use std::alloc::{AllocError, Global};
 

@@ -9,8 +9,8 @@ use Rattle.json_tables.specs.Reading.{◌>>=◌}
 use Rattle.recorded_case.specs.Case.{case_of, IsReady}
 use Rattle.recorded_case.specs.declared.case.Case.{Case}
 use Rattle.recorded_case.proofs.CaseParts.{through, case_ready}
-use Rattle.pull_admit.specs.Asked.{review_of}
-use Rattle.pull_admit.specs.declared.asked.Review.{Review}
+use Rattle.pod_reviews.specs.Asked.{review_of}
+use Rattle.pod_reviews.specs.declared.asked.Review.{Review}
 use Rattle.reviewed_cases.specs.Input.{IsForReview, has_one, is_settings, only_settings, with_reference, settings_of, review_input_of}
 
 -- settings that are ready for a review

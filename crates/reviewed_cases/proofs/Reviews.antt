@@ -22,9 +22,9 @@ use Rattle.pulled_cases.specs.declared.opening.Opened.{Opened}
 use Rattle.pulled_cases.specs.declared.report.Report.{Report}
 use Rattle.pull_admit.proofs.OneImages.{reviewed_as, one_each}
 use Rattle.pull_admit.specs.Decided.{PullTerms, Reviewed, Reviews, pull_of}
-use Rattle.pull_admit.specs.declared.asked.Review.{Review}
+use Rattle.pod_reviews.specs.declared.asked.Review.{Review}
 use Rattle.pull_admit.specs.declared.decision.Decision.{Decision}
-use Rattle.pull_admit.specs.declared.images.ReviewImage.{ReviewImage}
+use Rattle.pod_reviews.specs.declared.images.ReviewImage.{ReviewImage}
 use Rattle.reviewed_cases.specs.Replayed.{RespondsOver, terms_for}
 use Rattle.reviewed_cases.specs.Responses.{IsResponse, ReportsReview, terms_of}
 

@@ -9,7 +9,7 @@ use Rattle.json_tables.specs.Reading.{◌>>=◌}
 use Rattle.recorded_case.specs.Case.{case_of, IsReady}
 use Rattle.recorded_case.specs.Members.{passing}
 use Rattle.recorded_case.specs.declared.case.Case.{Case}
-use Rattle.pull_admit.specs.Asked.{review_of}
+use Rattle.pod_reviews.specs.Asked.{review_of}
 use Rattle.reviewed_cases.specs.declared.input.ReviewInput.{ReviewInput}
 
 -- the members with a reference, if they have none

@@ -18,7 +18,7 @@ use Rattle.recorded_case.specs.declared.registry.Registry.{Registry}
 use Rattle.pulled_cases.specs.declared.opening.Terms.{Terms}
 use Rattle.pulled_cases.specs.declared.report.Report.{Report}
 use Rattle.pull_admit.specs.Decided.{PullTerms, Reviewed, terms_by}
-use Rattle.pull_admit.specs.declared.asked.Review.{Review}
+use Rattle.pod_reviews.specs.declared.asked.Review.{Review}
 use Rattle.pull_admit.specs.declared.decision.Decision.{Decision}
 use Rattle.reviewed_cases.specs.Responses.{IsResponse}
 

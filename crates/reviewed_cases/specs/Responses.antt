@@ -14,9 +14,9 @@ use Rattle.pulled_cases.specs.Pulls.{settings_of}
 use Rattle.pulled_cases.specs.declared.report.Report.{Report}
 use Rattle.pull_admit.specs.Decided.{PullTerms, Reviewed}
 use Rattle.pull_admit.specs.Responses.{all_allowed, response_data}
-use Rattle.pull_admit.specs.declared.asked.Review.{Review}
+use Rattle.pod_reviews.specs.declared.asked.Review.{Review}
 use Rattle.pull_admit.specs.declared.decision.Decision.{Decision}
-use Rattle.pull_admit.specs.declared.images.ReviewImage.{ReviewImage}
+use Rattle.pod_reviews.specs.declared.images.ReviewImage.{ReviewImage}
 use Rattle.reviewed_cases.specs.declared.input.ReviewInput.{ReviewInput}
 
 -- what each image is pulled with at this moment, by a case

@@ -8,11 +8,11 @@ use Rattle.pod_reviews.specs.declared.verdict.Verdict.{Verdict}
 use Rattle.pod_reviews.specs.declared.verdict.Verdict.TheVariants.{Allowed, Denied}
 use Rattle.pull_report.specs.Prints.{refusal_print}
 use Rattle.pull_admit.specs.Responses.{response_data as decided_data}
-use Rattle.pull_admit.specs.declared.asked.Review.{Review}
+use Rattle.pod_reviews.specs.declared.asked.Review.{Review}
 use Rattle.pull_admit.specs.declared.decision.Decision.{Decision}
 use Rattle.pull_admit.specs.declared.decision.Decision.TheVariants.{Allow, Deny}
 use Rattle.pull_admit.specs.declared.decision.DenyCause.TheVariants.{NotAReference, Refused}
-use Rattle.pull_admit.specs.declared.images.ReviewImage.{ReviewImage}
+use Rattle.pod_reviews.specs.declared.images.ReviewImage.{ReviewImage}
 
 -- the digest of an image that is allowed, or the cause, an error as its print
 abbrev pub verdict_of : Decision → Verdict
