@@ -6,3 +6,4 @@ pub mod PullsOfRange
 pub mod SinkCalm
 pub mod SinksTaken
 pub mod TakenImages
+pub mod WithinSize

@@ -1,5 +1,5 @@
 -- What the sinks of one blob after another took.
-use Rattle.std.proofs.Common.{◌≡◌, ◌≤◌, ℕ, true, false, inl, inr, List, [], ◌∷◌, ◌++◌, Some, Result, Ok, Err, refl, sym, ap, subst, ◌∙◌, append_assoc, append-nil, arith}
+use Rattle.std.proofs.Common.{◌≡◌, ◌≤◌, ℕ, true, false, inl, inr, List, [], ◌∷◌, ◌++◌, Option, Some, None, Result, Ok, Err, length, length-append, refl, sym, ap, subst, ◌∙◌, append_assoc, append-nil, arith}
 use Rattle.json_values.specs.Counts.{Increased}
 use Rattle.byte_streams.specs.SinkState.{SinkState, Adds}
 use Rattle.oci_transport.specs.Link.{Link}
@@ -11,9 +11,10 @@ use Rattle.engine_terms.specs.declared.error.OciDistributionError.{OciDistributi
 use Rattle.engine_rows.specs.Answered.{Body}
 use Rattle.engine_rows.specs.Blobs.{IsPrefix}
 use Rattle.request_laws.proofs.DocumentAnswers.{body_after}
+use Rattle.blob_laws.specs.Cut.{size_of}
 use Rattle.blob_laws.specs.Taken.{IsBlobOf}
 use Rattle.image_blobs.specs.SinksState.{Closed, SinksState, Closes, closing}
-use Rattle.image_blobs.specs.Taken.{IsFront, IsFrontOrNone, Stands, Falls, EachStands, MayFall, TookAll, TookSome, TookBlobs}
+use Rattle.image_blobs.specs.Taken.{AddsWithin, IsFront, IsFrontOrNone, Stands, Falls, EachStands, MayFall, TookAll, TookSome, TookBlobs}
 
 -- ---- exchanges before and after
 
@@ -55,7 +56,7 @@ stands_both fresh c (x ∷ xs) ys [] ws first second = absurd first
 falls_after : (fresh : SinkState) (c d : List Exchange) (xs : List OciDescriptor) (zs : List Closed) → MayFall fresh d xs zs → MayFall fresh (c ++ d) xs zs
 falls_after fresh c d [] [] h = tt
 falls_after fresh c d (x ∷ xs) [] h = tt
-falls_after fresh c d (x ∷ xs) (z ∷ []) h = record { digest = h.digest; stood = h.stood; bytes = h.bytes; took = h.took; front = front_after c d h.bytes h.front }
+falls_after fresh c d (x ∷ xs) (z ∷ []) h = record { digest = h.digest; stood = h.stood; bytes = h.bytes; took = h.took; within = h.within; front = front_after c d h.bytes h.front }
 falls_after fresh c d [] (z ∷ zs) h = absurd h
 falls_after fresh c d (x ∷ xs) (z ∷ (w ∷ zs)) h = absurd h
 
@@ -93,8 +94,19 @@ pub took_refused : (fresh sink : SinkState) (x : OciDescriptor) (bytes : List �
 took_refused fresh sink x bytes closes adds told = record { done = x ∷ []; rest = []; split = refl; closed = closing x.digest sink true ∷ []; last = []; closes = closes; stand = told_as (λ c h. ((record { digest = refl; stood = refl; bytes = bytes; took = adds; blob = h }, tt), tt)) told }
 
 -- its sink has a prefix of a body
-pub took_front : (fresh sink : SinkState) (x : OciDescriptor) (bytes : List ℕ) {old new : Link} {before after : SinksState} → Closes (closing x.digest sink false ∷ []) before after → Adds bytes fresh sink → Told (IsPrefix bytes) old new → TookSome fresh (x ∷ []) old new before after
-took_front fresh sink x bytes closes adds told = record { done = []; rest = x ∷ []; split = refl; closed = []; last = closing x.digest sink false ∷ []; closes = closes; stand = told_as (λ c h. (tt, record { digest = refl; stood = refl; bytes = bytes; took = adds; front = front_of c bytes h })) told }
+fell : (fresh sink : SinkState) (x : OciDescriptor) (bytes : List ℕ) {old new : Link} {before after : SinksState} → Closes (closing x.digest sink false ∷ []) before after → Adds bytes fresh sink → length bytes ≤ size_of x → Told (IsPrefix bytes) old new → TookSome fresh (x ∷ []) old new before after
+fell fresh sink x bytes closes adds within told = record { done = []; rest = x ∷ []; split = refl; closed = []; last = closing x.digest sink false ∷ []; closes = closes; stand = told_as (λ c h. (tt, record { digest = refl; stood = refl; bytes = bytes; took = adds; within = within; front = front_of c bytes h })) told }
+
+-- lists with the same bytes before them are as long as one another
+as_long : (before xs ys : List ℕ) {taken : Option (List ℕ)} → taken ≡ Some (before ++ xs) → taken ≡ Some (before ++ ys) → length ys ≡ length xs
+as_long before xs ys first second = let same : before ++ ys ≡ before ++ xs = cc (first, second) in omega (arith, sym (length-append before ys) ∙ ap length same ∙ length-append before xs)
+
+-- it has at most as many bytes as the descriptor states: those of the prefix, if the sink exposes its bytes
+pub took_front : (fresh sink : SinkState) (x : OciDescriptor) (bytes : List ℕ) {old new : Link} {before after : SinksState} → Closes (closing x.digest sink false ∷ []) before after → Adds bytes fresh sink → AddsWithin (size_of x) fresh sink → Told (IsPrefix bytes) old new → TookSome fresh (x ∷ []) old new before after
+took_front fresh sink x bytes {old} {new} {before} {after} closes adds within told = by_exposed fresh.taken refl where
+  by_exposed : (o : Option (List ℕ)) → fresh.taken ≡ o → TookSome fresh (x ∷ []) old new before after
+  by_exposed None is = fell fresh sink x [] closes (record { took = λ had h. absurd (cc (is, h)) }) (omega arith) (told_as (λ c h. inl refl) told)
+  by_exposed (Some had) is = fell fresh sink x bytes closes adds (rw (as_long had within.bytes bytes (within.added.took had is) (adds.took had is)) within.within) told
 
 -- no sink was opened
 pub took_nothing : (fresh : SinkState) (xs : List OciDescriptor) {old new : Link} {before after : SinksState} → Closes [] before after → Told (λ c. Unit {0}) old new → TookSome fresh xs old new before after

@@ -1,5 +1,5 @@
 -- What the sinks of a pull took.
-use Rattle.std.specs.Prelude.{◌≡◌, ◌<◌, ◌⊎◌, ℕ, true, false, List, [], ◌∷◌, ◌++◌, Result}
+use Rattle.std.specs.Prelude.{◌≡◌, ◌≤◌, ◌<◌, ◌⊎◌, ℕ, true, false, List, [], ◌∷◌, ◌++◌, Result}
 use Rattle.std.specs.Prelude.{Ok, Err, IfErr, None, get_or, length}
 use Rattle.json_values.specs.Counts.{Increased}
 use Rattle.byte_streams.specs.SinkState.{SinkState, Adds}
@@ -22,6 +22,7 @@ use Rattle.engine_rows.specs.Held.{pulling}
 use Rattle.engine_rows.specs.Blobs.{filled}
 use Rattle.engine_rows.specs.Rows.{Row}
 use Rattle.blob_laws.specs.Causes.{BlobsCause}
+use Rattle.blob_laws.specs.Cut.{size_of}
 use Rattle.blob_laws.specs.Taken.{IsBlobOf}
 use Rattle.image_blobs.specs.SinksState.{Closed, SinksState, Closes}
 
@@ -37,6 +38,12 @@ pub record IsFront (c : List Exchange) (bytes : List ℕ) : Type 0 where
 abbrev pub IsFrontOrNone : List Exchange → List ℕ → Type 0
 IsFrontOrNone c bytes = (bytes ≡ []) ⊎ IsFront c bytes
 
+-- at most `limit` bytes were appended, if the sink exposes its bytes
+pub record AddsWithin (limit : ℕ) (old new : SinkState) : Type 0 where
+  pub bytes : List ℕ
+  pub within : length bytes ≤ limit
+  pub added : Adds bytes old new
+
 -- the sink was opened for the descriptor's blob, took exactly it, and was told so
 pub record Stands (fresh : SinkState) (c : List Exchange) (x : OciDescriptor) (z : Closed) : Type 0 where
   pub digest : z.digest ≡ x.digest
@@ -45,12 +52,14 @@ pub record Stands (fresh : SinkState) (c : List Exchange) (x : OciDescriptor) (z
   pub took : Adds bytes fresh z.sink
   pub blob : IsBlobOf c x bytes
 
--- it was opened for the descriptor's blob, took a prefix of a response's body, and was told that it has not the blob
+-- It was opened for the descriptor's blob, took a prefix of a response's body with at most as many bytes as the
+-- descriptor states, and was told that it has not the blob.
 pub record Falls (fresh : SinkState) (c : List Exchange) (x : OciDescriptor) (z : Closed) : Type 0 where
   pub digest : z.digest ≡ x.digest
   pub stood : z.stood ≡ false
   pub bytes : List ℕ
   pub took : Adds bytes fresh z.sink
+  pub within : length bytes ≤ size_of x
   pub front : IsFrontOrNone c bytes
 
 -- ---- all blobs of a call

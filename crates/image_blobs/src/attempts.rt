@@ -1,5 +1,5 @@
 // One request for a blob, cut at the size of its descriptor.
-ghost use Rattle.std.specs.Prelude.{◌≡◌, ℕ, List, Option, None, Some};
+ghost use Rattle.std.specs.Prelude.{◌≡◌, ℕ, List, Option, None, Some, Ok, false};
 ghost use Rattle.json_values.specs.Refusals.{MatchesError};
 ghost use Rattle.oci_auth.specs.declared.auth_state.AuthState.{AuthState};
 ghost use Rattle.oci_protocol.specs.Follow.{Reaches};
@@ -11,13 +11,15 @@ ghost use Rattle.engine_rows.specs.Blobs.{MeetsIntoSink};
 ghost use Rattle.engine_rows.specs.Offers.{OfferedInto};
 ghost use Rattle.engine_rows.specs.Rows.{Row};
 ghost use Rattle.blob_laws.specs.Cut.{instead, cut};
+ghost use Rattle.image_blobs.specs.Taken.{AddsWithin};
 
+use crate::bodies::stream_within;
 use byte_streams::Sink;
 use engine_answers::{Plan, both_compared, digesters, is_error, plan_of, refused_answer};
 use engine_rows::got_of;
 use engine_terms::{OciDistributionError, Settings};
 use json_values::Blob;
-use oci_protocol::{Reached, StreamBodyError, reach, stream_body};
+use oci_protocol::{Reached, StreamBodyError, reach};
 use oci_transport::{BodyError, LinkError, Request, Transport, read_body};
 use std::alloc::{AllocError, Global};
 
@@ -43,11 +45,12 @@ fn put_reached<T: Transport, K: Sink>(
     reached: &Reached,
     out: &mut K,
 ) -> Result<(), OciDistributionError>
-    ensures { (old : Link) (request : Asked) (k : AuthState) (next : Option (Row (List ℕ)))
+    ensures run { (old : Link) (request : Asked) (k : AuthState) (next : Option (Row (List ℕ)))
         → Reaches 10 request reached.now.head reached.now.request old (T.state transport.old)
         → instead next reached.now.head ≡ None
         → MeetsIntoSink (cut settings.now size digest.now next request) old (T.state transport.new) k k
         (K.state out.old) (K.state out.new) result }
+    ensures within { AddsWithin size (K.state out.old) (K.state out.new) }
 {
     let plan = plan_of(alloc, digest, &reached.head)?;
     match plan {
@@ -60,7 +63,7 @@ fn put_reached<T: Transport, K: Sink>(
         },
         Plan::Pour(given, own) => {
             let mut digesters = digesters(&given, &own);
-            match stream_body(alloc, transport, out, size, &mut digesters) {
+            match stream_within(alloc, transport, out, size, &mut digesters) {
                 Ok(()) => {
                     both_compared(alloc, &mut digesters, &given, &own)?;
                     Ok(())
@@ -75,7 +78,7 @@ fn put_reached<T: Transport, K: Sink>(
 }
 
 /// Sends one request for a blob of this size in bytes, the last one, and writes its bytes to the sink as they are
-/// received.
+/// received, and at most as many as its size.
 #[tactic(none)]
 pub fn attempt<T: Transport, K: Sink>(
     alloc: Global,
@@ -86,8 +89,9 @@ pub fn attempt<T: Transport, K: Sink>(
     request: &Request,
     out: &mut K,
 ) -> Result<(), OciDistributionError>
-    ensures { (k : AuthState) → MeetsIntoSink (cut settings.now size digest.now None request.now)
+    ensures run { (k : AuthState) → MeetsIntoSink (cut settings.now size digest.now None request.now)
         (T.state transport.old) (T.state transport.new) k k (K.state out.old) (K.state out.new) result }
+    ensures within { AddsWithin size (K.state out.old) (K.state out.new) }
 {
     let reached = match reach(alloc, transport, 10, request) {
         Ok(reached) => reached,
@@ -99,8 +103,8 @@ pub fn attempt<T: Transport, K: Sink>(
 }
 
 /// Sends one request for a blob of this size in bytes that may be elsewhere too, and writes its bytes to the sink as
-/// they are received. If the response has a 4xx or 5xx status, returns false: its body is not read, and nothing is
-/// written.
+/// they are received, and at most as many as its size. If the response has a 4xx or 5xx status, returns false: its body
+/// is not read, and nothing is written.
 #[tactic(none)]
 pub fn offer<T: Transport, K: Sink>(
     alloc: Global,
@@ -111,9 +115,11 @@ pub fn offer<T: Transport, K: Sink>(
     request: &Request,
     out: &mut K,
 ) -> Result<bool, OciDistributionError>
-    ensures { (k : AuthState) (next : Row (List ℕ)) → OfferedInto next
+    ensures run { (k : AuthState) (next : Row (List ℕ)) → OfferedInto next
         (cut settings.now size digest.now (Some next) request.now)
         (T.state transport.old) (T.state transport.new) k (K.state out.old) (K.state out.new) result }
+    ensures within { AddsWithin size (K.state out.old) (K.state out.new) }
+    ensures unwritten { result ≡ Ok false → K.state out.new ≡ K.state out.old }
 {
     let reached = match reach(alloc, transport, 10, request) {
         Ok(reached) => reached,

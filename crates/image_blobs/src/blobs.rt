@@ -12,6 +12,7 @@ ghost use Rattle.engine_rows.specs.Blobs.{MeetsIntoSink};
 ghost use Rattle.engine_rows.specs.Rows.{goes_to};
 ghost use Rattle.blob_laws.specs.Blobs.{sent_token, blob_with};
 ghost use Rattle.blob_laws.specs.Cut.{size_of, cut_at};
+ghost use Rattle.image_blobs.specs.Taken.{AddsWithin};
 
 use crate::attempts::{attempt, offer};
 use byte_streams::Sink;
@@ -79,10 +80,11 @@ fn cut_at<T: Transport, K: Sink>(
     mut request: Request,
     out: &mut K,
 ) -> Result<(), OciDistributionError>
-    ensures { (k : AuthState)
+    ensures run { (k : AuthState)
         → MeetsIntoSink (cut_at settings.now blob.now.size blob.now.digest.now
         (places_of urls.now) request)
         (T.state transport.old) (T.state transport.new) k k (K.state out.old) (K.state out.new) result }
+    ensures within { AddsWithin blob.now.size (K.state out.old) (K.state out.new) }
 {
     for url in urls {
         let Some(place) = place_of(alloc, url.as_str())? else {
@@ -136,8 +138,8 @@ fn urls_of(x: &OciDescriptor) -> &[Text]
 
 /// Writes the bytes of a descriptor's blob to a sink, piece by piece as they are received, and at most as many as the
 /// descriptor states. The blob is requested from the registry and, while the status is 4xx or 5xx, from the URLs of the
-/// descriptor, in order and without credentials. After a refusal the sink holds a prefix of the last response's body,
-/// whose status is 2xx, or nothing.
+/// descriptor, in order and without credentials. After a refusal the sink took a prefix of the last response's body,
+/// whose status is 2xx, or nothing; in any case at most as many bytes as the descriptor states.
 pub fn blob_with<T: Transport, K: Sink>(
     alloc: Global,
     transport: &mut T,
@@ -146,9 +148,10 @@ pub fn blob_with<T: Transport, K: Sink>(
     x: &OciDescriptor,
     out: &mut K,
 ) -> Result<(), OciDistributionError>
-    ensures { (k : AuthState) → MeetsIntoSink (blob_with call.now.settings.now call.now.image.now
+    ensures run { (k : AuthState) → MeetsIntoSink (blob_with call.now.settings.now call.now.image.now
         access.now.registry.now access.now.token.now x.now) (T.state transport.old) (T.state transport.new) k k
         (K.state out.old) (K.state out.new) result }
+    ensures within { AddsWithin (size_of x.now) (K.state out.old) (K.state out.new) }
 {
     let blob = Stated {
         size: size_of(x),

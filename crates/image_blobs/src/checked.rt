@@ -17,8 +17,8 @@ fn zeros(alloc: Global, count: usize) -> Result<Vec<u8>, AllocError>
     vec![in alloc; 0; count]
 }
 
-// Returns a digester of the algorithm that the text names. `None` if it names none.
-fn digester_of(alloc: Global, digest: &str) -> Result<Option<Digester>, AllocError>
+/// Returns a digester of the algorithm that the text names. `None` if it names none. Fails only if memory runs out.
+pub fn digester_of(alloc: Global, digest: &str) -> Result<Option<Digester>, AllocError>
     ensures { IfOk result (IsDigesterOf digest.now) }
 {
     match Digester::new(alloc, digest) {

@@ -4,12 +4,13 @@
 
 mod attempts;
 mod blobs;
+mod bodies;
 mod checked;
 mod laws;
 mod pulls;
 mod sinks;
 
-pub use checked::check_blob;
+pub use checked::{check_blob, digester_of};
 pub use laws::documents_with_blobs_are_images;
-pub use pulls::{BlobRange, pull_blobs};
+pub use pulls::{BlobRange, descriptor_at, pull_blobs};
 pub use sinks::Sinks;

@@ -72,8 +72,9 @@ fn kept_blob<T: Transport, S: Sinks>(
     }
 }
 
-// Returns the descriptor of the blob at this index.
-fn descriptor_at(manifest: &OciImageManifest, at: usize) -> Option<&OciDescriptor>
+/// Returns the descriptor of the blob at this index: 0 is the configuration, and the layers follow. `None` if there is
+/// none.
+pub fn descriptor_at(manifest: &OciImageManifest, at: usize) -> Option<&OciDescriptor>
     ensures { MatchOption result (length (descriptors_of manifest.now) ≤ at)
         (λ x. IsAt (descriptors_of manifest.now) at x.now) }
 {

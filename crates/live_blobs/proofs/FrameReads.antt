@@ -17,16 +17,16 @@ use Rattle.live_pull.specs.Settings.{documents_of}
 use Rattle.live_pull.specs.declared.settings.LiveSettings.{LiveSettings}
 use Rattle.live_blobs.specs.Settings.{blobs_of, members}
 
-refused_here : {A X : Type 0} (e : ReadError) (o : Option A) (k : A → Option X) → Refuses e o → Refuses e (o >>= k)
+pub refused_here : {A X : Type 0} (e : ReadError) (o : Option A) (k : A → Option X) → Refuses e o → Refuses e (o >>= k)
 refused_here read.Float o k h = absurd h
 refused_here read.Shape o k h = ap (λ p. p >>= k) h
 refused_here read.Ambiguous o k h = absurd h
 refused_here read.WantOfMemory o k h = tt
 
-next : {A X : Type 0} {o : Option A} {x : A} {r : Option X} (k : A → Option X) → o ≡ Some x → k x ≡ r → (o >>= k) ≡ r
+pub next : {A X : Type 0} {o : Option A} {x : A} {r : Option X} (k : A → Option X) → o ≡ Some x → k x ≡ r → (o >>= k) ≡ r
 next k same h = ap (λ p. p >>= k) same ∙ h
 
-next_some : {A X : Type 0} {r : Option X} (o : Option A) (k : A → Option X) → is_some o ≡ true → ((a : A) → k a ≡ r) → (o >>= k) ≡ r
+pub next_some : {A X : Type 0} {r : Option X} (o : Option A) (k : A → Option X) → is_some o ≡ true → ((a : A) → k a ≡ r) → (o >>= k) ≡ r
 next_some None k is h = absurd (cc is)
 next_some (Some a) k is h = h a
 

@@ -14,7 +14,7 @@ use Rattle.live_pull.specs.declared.settings.LiveSettings.{LiveSettings}
 use Rattle.live_blobs.specs.Settings.{AreReady, blobs_of, members}
 use Rattle.live_blobs.specs.declared.settings.BlobSettings.{BlobSettings}
 
-frame_ready : (o : Option Data) (settings : LiveSettings) → (o >>= documents_of) ≡ Some settings → IsReady settings
+pub frame_ready : (o : Option Data) (settings : LiveSettings) → (o >>= documents_of) ≡ Some settings → IsReady settings
 frame_ready None settings is = absurd (cc is)
 frame_ready (Some d) settings is = documents_ready d settings is
 

@@ -21,8 +21,8 @@ use oci_manifests::OciImageManifest;
 use pull_report::print_line;
 use std::alloc::{AllocError, Global};
 
-// Returns the descriptor of the blob at this index.
-fn descriptor_at(manifest: &OciImageManifest, at: usize) -> Option<&OciDescriptor>
+/// Returns the descriptor of the blob at this index.
+pub fn descriptor_at(manifest: &OciImageManifest, at: usize) -> Option<&OciDescriptor>
     ensures { MatchOption result (length (descriptors_of manifest.now) ≤ at)
         (λ x. IsAt (descriptors_of manifest.now) at x.now) }
 {
@@ -88,8 +88,8 @@ fn report_of(alloc: Global, error: &OciDistributionError) -> Result<Text, AllocE
     }
 }
 
-// Sends an error.
-fn give_error<S: Source, K: Sink>(
+/// Sends an error as the line of a refusal.
+pub fn give_error<S: Source, K: Sink>(
     alloc: Global,
     streams: &mut Streams<S, K>,
     error: &OciDistributionError,

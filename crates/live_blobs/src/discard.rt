@@ -25,8 +25,8 @@ impl Sink for Discard {
     }
 }
 
-// Notes the bytes of a text, for proofs only.
-fn noted(text: &str) -> Log<u8, ()>
+/// Notes the bytes of a text, for proofs only.
+pub fn noted(text: &str) -> Log<u8, ()>
     ensures { map (λ byte. byte.0) result.items ≡ text.now }
 {
     let mut log = Log::new();

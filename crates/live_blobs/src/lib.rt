@@ -10,5 +10,8 @@ mod opening;
 mod pulls;
 mod settings;
 
+pub use delivery::{descriptor_at, give_error};
+pub use discard::noted;
 pub use live::serve_blobs;
-pub use settings::{BlobSettings, read_blob_settings};
+pub use opening::{Opened, Started, image_in, open, start};
+pub use settings::{BlobSettings, documents_in, read_blob_settings};

@@ -13,7 +13,7 @@ use std::alloc::{AllocError, Global};
 
 /// What is allocated before the first request.
 #[derive(Drop)]
-pub(crate) struct Started {
+pub struct Started {
     pub image: Reference,
     pub state: AuthState,
     pub usual: ClientConfig,
@@ -21,15 +21,15 @@ pub(crate) struct Started {
 
 /// The settings of the requests, the image, and the credentials and tokens.
 #[derive(Drop)]
-pub(crate) struct Opened {
+pub struct Opened {
     pub settings: Settings,
     pub image: Reference,
     pub state: AuthState,
     pub moment: u64,
 }
 
-// Returns the reference that a text parses as.
-fn image_in(alloc: Global, text: &str) -> Result<Reference, AllocError>
+/// Returns the reference that a text parses as.
+pub fn image_in(alloc: Global, text: &str) -> Result<Reference, AllocError>
     requires { IsOk (reference_of text.now) }
     ensures { IfOk result (λ image. reference_of text.now ≡ Ok image) }
 {
@@ -41,7 +41,7 @@ fn image_in(alloc: Global, text: &str) -> Result<Reference, AllocError>
 }
 
 /// Allocates what a call needs before its first request, and stores the credentials for the image's registry.
-pub(crate) fn start(alloc: Global, settings: &LiveSettings) -> Result<Started, AllocError>
+pub fn start(alloc: Global, settings: &LiveSettings) -> Result<Started, AllocError>
     requires { IsReady settings.now }
     ensures { IfOk result (Starts settings.now) }
 {
@@ -57,7 +57,7 @@ pub(crate) fn start(alloc: Global, settings: &LiveSettings) -> Result<Started, A
 }
 
 /// Returns a call by these settings.
-pub(crate) fn open(started: Started, settings: LiveSettings) -> Opened
+pub fn open(started: Started, settings: LiveSettings) -> Opened
     requires { Starts settings started }
     ensures { Opens settings result }
 {

@@ -28,8 +28,8 @@ pub struct BlobSettings {
 
 const NAMES: &[&str] = &["settings", "manifest", "first", "end", "frame"];
 
-// The frame `documents` in the member `settings`.
-fn documents_in(alloc: Global, value: &Value) -> Result<LiveSettings, ReadError>
+/// Reads the frame `documents` in the member `settings`. Returns `Shape` if and only if there is none.
+pub fn documents_in(alloc: Global, value: &Value) -> Result<LiveSettings, ReadError>
     ensures { ReadsTo result (required documents_of (codes "settings") (view value.now)) }
 {
     let Some(frame) = value.get("settings") else {
