@@ -13,3 +13,5 @@ mod recorded;
 mod referrers;
 #[cfg(test)]
 mod streams;
+#[cfg(test)]
+mod unread;
