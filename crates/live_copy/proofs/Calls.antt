@@ -1,5 +1,5 @@
 -- A call of a client by a transport over the streams, by the frames that carried it.
-use Rattle.std.proofs.Common.{◌≡◌, ℕ, false, List, [], Bool, Option, Some, Result, Ok, Err, IfOk, IfErr, refl, subst, sym}
+use Rattle.std.proofs.Common.{◌≡◌, inl, inr, ℕ, false, List, [], Bool, Option, Some, Result, Ok, Err, IfOk, IfErr, refl, subst, sym}
 use Rattle.oci_auth.specs.declared.auth.RegistryAuth.{RegistryAuth}
 use Rattle.oci_auth.specs.declared.auth_state.AuthState.{AuthState}
 use Rattle.oci_names.specs.declared.reference.Reference.{Reference}
@@ -21,7 +21,13 @@ use Rattle.pull_mirror.specs.Pushes.{digests_of}
 use Rattle.pull_mirror.specs.declared.absences.DocumentsRefusal.{DocumentsRefusal}
 use Rattle.pull_mirror.specs.declared.absences.DocumentsRefusal.TheVariants.{Missing, Refused, WantOfMemory}
 use Rattle.pull_mirror.specs.declared.refusals.PushReport.{PushReport}
-use Rattle.live_copy.specs.Course.{ByFrames, Pushed, UnlessMemory, ran_out}
+use Rattle.cosign_rows.specs.References.{tag_reference}
+use Rattle.free_targets.specs.FreeTargets.{target_free}
+use Rattle.free_targets.specs.Taken.{IsOfTarget, TagsWithin, taken_of}
+use Rattle.free_targets.specs.declared.refusals.TargetRefusal.{TargetRefusal}
+use Rattle.free_targets.specs.declared.refusals.TargetRefusal.TheVariants.{Taken, Unread}
+use Rattle.free_targets.specs.declared.refusals.TargetRefusal.TheVariants as tags
+use Rattle.live_copy.specs.Course.{AskedTags, ByFrames, Pushed, UnlessMemory, UnlessTagsMemory, ran_out}
 
 -- what a refused copy states
 abbrev StoppedIf : Context → Reference → Bool → VerifiedDocuments → Link → Link → AuthState → AuthState → Result PushReport DocumentsRefusal → Type 0
@@ -56,3 +62,18 @@ module _ (first last : Link) (breach : Option Breach) (old new : Wire) (told : f
     pushed (Err (Missing digest)) from met digests stopped = λ kept. pushed_by (Err (Missing digest)) met.outcome digests
     pushed (Err (Refused digest error)) from met digests stopped = λ kept. pushed_by (Err (Refused digest error)) (rw stopped.1 at met.outcome) digests
     pushed (Err WantOfMemory) from met digests stopped = λ kept. absurd (cc kept)
+
+  module _ (s : Context) (image : Reference) (a : RegistryAuth) (d : VerifiedDocuments) (k l : AuthState) (confined : Told (TagsWithin k s image (tag_reference image d.digest) a l) first last) where
+    asked_by : (r : Result (Unit {0}) TargetRefusal) → Performs (target_free s image a d) first last k l (taken_of r) → AskedTags s image a d k l r old new
+    asked_by r performed = record {
+      run = carried (target_free s image a d) k l (taken_of r) performed;
+      confined = shown (TagsWithin k s image (tag_reference image d.digest) a l) first last breach old new told confined lets;
+    }
+
+    -- questions about tags that did not run out of memory
+    pub asked : (r : Result (Unit {0}) TargetRefusal) → Meets is_memory (target_free s image a d) first last k l (taken_of r) → IfErr r (IsOfTarget s image a d first last k l) → UnlessTagsMemory r (AskedTags s image a d k l r old new)
+    asked (Ok u) met stopped = asked_by (Ok u) met.outcome
+    asked (Err (Taken reference digest)) met stopped = λ kept. asked_by (Err (Taken reference digest)) met.outcome
+    asked (Err (Unread reference error)) met (inl h) = λ kept. asked_by (Err (Unread reference error)) (rw h.1.no_memory at met.outcome)
+    asked (Err (Unread reference error)) met (inr h) = λ kept. asked_by (Err (Unread reference error)) (rw h.signature.1.no_memory at met.outcome)
+    asked (Err tags.WantOfMemory) met stopped = λ kept. absurd (cc kept)

@@ -41,7 +41,7 @@ target_by d (Some found) target is h = reads_as_reference (get (codes "reference
   some_is : Some found ≡ Some target → found ≡ target
   some_is e = cc e
 
-target_ready : (o : Option Data) (target : TargetSettings) → (o >>= target_of) ≡ Some target → IsOk (reference_of target.reference)
+pub target_ready : (o : Option Data) (target : TargetSettings) → (o >>= target_of) ≡ Some target → IsOk (reference_of target.reference)
 target_ready None target is = absurd (cc is)
 target_ready (Some d) target is = target_by d (target_of d) target is (reference_is d)
 

@@ -1,4 +1,5 @@
--- The course of a copy: the documents are decided on and sent, the host carries the blobs, and the documents are pushed.
+-- The course of a copy: the documents are decided on and sent, the target is asked what its tags name, the host carries
+-- the blobs, and the documents are pushed.
 use Rattle.std.specs.Prelude.{◌≡◌, ◌⊎◌, ℕ, Bool, true, false, List, [], ◌∷◌, Option, Some, None, Result, Ok, Err, codes}
 use Rattle.std.specs.Str.{IsUtf8}
 use Rattle.serde_json.specs.Data.{Data}
@@ -13,6 +14,7 @@ use Rattle.engine_terms.specs.Contexts.{Context}
 use Rattle.engine_terms.specs.declared.error.OciDistributionError.{OciDistributionError}
 use Rattle.engine_rows.specs.Rows.{Row}
 use Rattle.cosign_documents.specs.declared.documents.VerifiedDocuments.{VerifiedDocuments}
+use Rattle.cosign_rows.specs.References.{tag_reference}
 use Rattle.cosign_rows.specs.Refusal.{is_memory}
 use Rattle.cosign_rows.specs.declared.refusal.PullRefusal.{PullRefusal}
 use Rattle.pull_report.specs.Words.{line}
@@ -32,17 +34,15 @@ use Rattle.pull_mirror.specs.Pushes.{digests_of}
 use Rattle.pull_mirror.specs.declared.absences.DocumentsRefusal.{DocumentsRefusal}
 use Rattle.pull_mirror.specs.declared.absences.DocumentsRefusal.TheVariants.{Missing, Refused, WantOfMemory}
 use Rattle.pull_mirror.specs.declared.refusals.PushReport.{PushReport}
+use Rattle.free_targets.specs.FreeTargets.{target_free}
+use Rattle.free_targets.specs.Prints.{target_print}
+use Rattle.free_targets.specs.Taken.{TagsWithin, taken_of}
+use Rattle.free_targets.specs.declared.refusals.TargetRefusal.{TargetRefusal}
+use Rattle.free_targets.specs.declared.refusals.TargetRefusal.TheVariants.{Taken, Unread}
+use Rattle.free_targets.specs.declared.refusals.TargetRefusal.TheVariants as tags
 use Rattle.live_copy.specs.Heads.{carried_of, carry_head, copied_head, side_head}
-use Rattle.live_copy.specs.Opening.{target_context}
+use Rattle.live_copy.specs.Opening.{asks_tags, target_context}
 use Rattle.live_copy.specs.declared.settings.CopySettings.{CopySettings}
-
--- ---- the host carries the blobs
-
--- requests go to the target from here on, and the host replied that it carried the blobs
-pub record WereCarried (old new : Wire) : Type 0 where
-  pub side_at : Wire
-  pub side : SendsFrame side_head [] old side_at
-  pub carried : SendsAndReceives carry_head [] carried_of tt side_at new
 
 -- ---- the pushes
 
@@ -63,47 +63,114 @@ pub record Pushed (s : Context) (image : Reference) (a : RegistryAuth) (tag : Bo
   pub digests : (report : PushReport) → r ≡ Ok report → report.pushed ≡ digests_of (all_of (parts_of tag d image))
   pub confined : Shown (CopyWithin k s image a left) old new
 
+-- ---- the questions about tags
+
+-- The target was asked what its tags name, from this client state on, as `free_target` does; credentials and tokens were
+-- sent only to the target's registry and to the realm that it names.
+pub record AskedTags (s : Context) (image : Reference) (a : RegistryAuth) (d : VerifiedDocuments) (k l : AuthState)
+    (r : Result (Unit {0}) TargetRefusal) (old new : Wire) : Type 0 where
+  pub run : ByFrames (target_free s image a d) old new k l (taken_of r)
+  pub confined : Shown (TagsWithin k s image (tag_reference image d.digest) a l) old new
+
+-- Or nothing was asked for, since the tags may be replaced or none is pushed.
+abbrev pub TagsAsked : Bool → Context → Reference → RegistryAuth → VerifiedDocuments → AuthState → AuthState
+    → Result (Unit {0}) TargetRefusal → Wire → Wire → Type 0
+TagsAsked true s image a d k l r old new = AskedTags s image a d k l r old new
+TagsAsked false s image a d k l r old new = (r ≡ Ok tt) × (l ≡ k) × (new ≡ old)
+
+-- ---- why a copy was refused
+
+-- a tag of the target, or a blob or a request to it
+pub data CopyRefusal : Type 0 where
+  OfTags : (e : TargetRefusal) → CopyRefusal
+  OfDocuments : (e : DocumentsRefusal) → CopyRefusal
+
+abbrev pub copied_of : Result PushReport DocumentsRefusal → Result PushReport CopyRefusal
+copied_of (Ok report) = Ok report
+copied_of (Err e) = Err (OfDocuments e)
+
 -- whether memory ran out
+abbrev pub tags_ran_out : TargetRefusal → Bool
+tags_ran_out (Taken reference digest) = false
+tags_ran_out (Unread reference error) = false
+tags_ran_out tags.WantOfMemory = true
+
 abbrev pub ran_out : DocumentsRefusal → Bool
 ran_out (Missing digest) = false
 ran_out (Refused digest error) = false
 ran_out WantOfMemory = true
+
+abbrev pub copy_ran_out : CopyRefusal → Bool
+copy_ran_out (OfTags e) = tags_ran_out e
+copy_ran_out (OfDocuments e) = ran_out e
 
 -- unless memory ran out
 abbrev pub UnlessMemory : Result PushReport DocumentsRefusal → Type 0 → Type 0
 UnlessMemory (Ok report) P = P
 UnlessMemory (Err e) P = ran_out e ≡ false → P
 
+abbrev pub UnlessTagsMemory : Result (Unit {0}) TargetRefusal → Type 0 → Type 0
+UnlessTagsMemory (Ok u) P = P
+UnlessTagsMemory (Err e) P = tags_ran_out e ≡ false → P
+
+-- ---- what was done at the target
+
+-- Its tags may be pushed; the host replied that it carried the blobs; and the documents were copied.
+pub record Copied (asks : Bool) (s : Context) (image : Reference) (a : RegistryAuth) (tag : Bool) (d : VerifiedDocuments)
+    (k : AuthState) (r : Result PushReport DocumentsRefusal) (old new : Wire) : Type 0 where
+  pub free_at : Wire
+  pub left : AuthState
+  pub free : TagsAsked asks s image a d k left (Ok tt) old free_at
+  pub carried_at : Wire
+  pub carried : SendsAndReceives carry_head [] carried_of tt free_at carried_at
+  pub pushed : Pushed s image a tag d left r carried_at new
+
+-- Or a tag refused the copy, and nothing else was sent to the target.
+abbrev pub AtTarget : Bool → Context → Reference → RegistryAuth → Bool → VerifiedDocuments → AuthState
+    → Result PushReport CopyRefusal → Wire → Wire → Type 0
+AtTarget asks s image a tag d k (Ok report) old new = Copied asks s image a tag d k (Ok report) old new
+AtTarget asks s image a tag d k (Err (OfDocuments e)) old new = Copied asks s image a tag d k (Err e) old new
+AtTarget asks s image a tag d k (Err (OfTags e)) old new =
+    (left : AuthState) × TagsAsked asks s image a d k left (Err e) old new
+
 -- ---- what is sent at the end
 
-abbrev pub refused_line : DocumentsRefusal → List ℕ
-refused_line e = line (codes "refused" ∷ documents_print e ∷ [])
+abbrev pub refusal_print : CopyRefusal → List ℕ
+refusal_print (OfTags e) = target_print e
+refusal_print (OfDocuments e) = documents_print e
 
--- the line of a refusal, or nothing if it is not UTF-8
-abbrev pub IsReport : DocumentsRefusal → List ℕ → Type 0
-IsReport e report = (report ≡ refused_line e) ⊎ ((IsUtf8 (refused_line e) → ⊥) × (report ≡ []))
+abbrev pub refused_line : List ℕ → List ℕ
+refused_line print = line (codes "refused" ∷ print ∷ [])
+
+-- the line of a refusal of this print, or nothing if it is not UTF-8
+abbrev pub IsReport : List ℕ → List ℕ → Type 0
+IsReport print report = (report ≡ refused_line print) ⊎ ((IsUtf8 (refused_line print) → ⊥) × (report ≡ []))
+
+abbrev pub RefusalTold : List ℕ → Wire → Wire → Type 0
+RefusalTold print old new = (report : List ℕ) × IsReport print report × SendsFrame (refused_head report) [] old new
 
 -- what was pushed, or the refusal
-abbrev pub CopyTold : Result PushReport DocumentsRefusal → Wire → Wire → Type 0
+abbrev pub CopyTold : Result PushReport CopyRefusal → Wire → Wire → Type 0
 CopyTold (Ok report) old new = SendsFrame (copied_head report.manifest_url report.pushed) [] old new
-CopyTold (Err e) old new = (report : List ℕ) × IsReport e report × SendsFrame (refused_head report) [] old new
+CopyTold (Err e) old new = RefusalTold (refusal_print e) old new
 
 -- ---- all of it
 
--- Documents that hold were decided on and sent; the host carried the blobs; the documents were copied, and what became
--- of it was sent. Nothing else was sent to the target than a run of the row of a copy.
-pub record LiveCopy (settings : CopySettings) (d : VerifiedDocuments) (r : Result PushReport DocumentsRefusal)
+-- Documents that hold were decided on and sent, and what follows goes to the target. Unless its tags may be replaced, it
+-- was asked what they name; only if they may be pushed, the host carried the blobs and the documents were copied. What
+-- became of it was sent. Nothing else was sent to the target than these runs.
+pub record LiveCopy (settings : CopySettings) (d : VerifiedDocuments) (r : Result PushReport CopyRefusal)
     (old new : Wire) : Type 0 where
   pub image : Reference
   pub reads : reference_of settings.target.reference ≡ Ok image
   pub decided_at : Wire
   pub documents : LiveDocuments settings.settings (Ok d) old decided_at
-  pub carried_at : Wire
-  pub carried : WereCarried decided_at carried_at
-  pub pushed_at : Wire
-  pub pushed : Pushed (target_context settings) image settings.target.auth settings.tag d (fresh 60) r carried_at
-      pushed_at
-  pub told : CopyTold r pushed_at new
+  pub side_at : Wire
+  pub side : SendsFrame side_head [] decided_at side_at
+  pub target_at : Wire
+  pub target : AtTarget (asks_tags settings) (target_context settings) image settings.target.auth settings.tag d
+      (fresh 60) r side_at target_at
+  pub told : CopyTold r target_at new
 
 -- ---- how it ends
 
@@ -115,7 +182,7 @@ IsCopyBroken new = IsBroken new ⊎ ((old : Wire) × (d : Data) × ReceivesFrame
 abbrev pub RefusedCopy : CopySettings → Wire → Wire → Type 0
 RefusedCopy settings old new =
     ((e : PullRefusal) × (is_memory e ≡ false) × LiveDocuments settings.settings (Err e) old new)
-    ⊎ ((d : VerifiedDocuments) × (e : DocumentsRefusal) × (ran_out e ≡ false) × LiveCopy settings d (Err e) old new)
+    ⊎ ((d : VerifiedDocuments) × (e : CopyRefusal) × (copy_ran_out e ≡ false) × LiveCopy settings d (Err e) old new)
 
 -- by the status; out of memory guarantees nothing
 abbrev pub CopyEnds : CopySettings → Status → Wire → Wire → Type 0

@@ -2,21 +2,23 @@
 ghost use Rattle.std.specs.Prelude.{◌≡◌, Ok, Err, IfErr, IfOk, OnOk};
 ghost use Rattle.live_host.specs.HostErrors.{HostCause};
 ghost use Rattle.live_host.specs.Wire.{wire};
-ghost use Rattle.live_copy.specs.Course.{CopyTold, IsReport, ran_out};
-ghost use Rattle.live_copy.specs.Parts.{EndsBy};
+ghost use Rattle.live_copy.specs.Course.{CopyTold, IsReport, OfDocuments, OfTags, RefusalTold, copied_of, ran_out};
+ghost use Rattle.live_copy.specs.Course.{tags_ran_out};
+ghost use Rattle.live_copy.specs.Parts.{EndsBy, EndsTelling};
 
 use crate::heads::copied_head;
 use byte_streams::{Sink, Source};
+use free_targets::TargetRefusal;
 use json_values::{Blob, Text};
 use live_host::{HostError, Streams, refused_head, tell};
 use live_pull::Status;
 use pull_mirror::{DocumentsRefusal, PushReport};
-use pull_report::print_line;
+use pull_report::{Printed, print_line};
 use std::alloc::{AllocError, Global};
 
 // The line of a refusal, or nothing if it is not UTF-8.
-fn report_of(alloc: Global, refusal: &DocumentsRefusal) -> Result<Text, AllocError>
-    ensures { IfOk result (λ report. IsReport refusal.now report) }
+fn report_of<R: Printed>(alloc: Global, refusal: &R) -> Result<Text, AllocError>
+    ensures { IfOk result (λ report. IsReport (R.print refusal.now) report) }
 {
     let mut line = Blob::empty(alloc);
     print_line(alloc, &mut line, "refused", refusal)?;
@@ -26,12 +28,12 @@ fn report_of(alloc: Global, refusal: &DocumentsRefusal) -> Result<Text, AllocErr
     }
 }
 
-fn give_refusal<S: Source, K: Sink>(
+fn give_refusal<S: Source, K: Sink, R: Printed>(
     alloc: Global,
     streams: &mut Streams<S, K>,
-    refusal: &DocumentsRefusal,
+    refusal: &R,
 ) -> Result<(), HostError>
-    ensures told { OnOk result (CopyTold (Err refusal.now)
+    ensures told { OnOk result (RefusalTold (R.print refusal.now)
         (wire S.state K.state streams.old) (wire S.state K.state streams.new)) }
     ensures cause { IfErr result (λ e. HostCause e (wire S.state K.state streams.new)) }
 {
@@ -39,6 +41,20 @@ fn give_refusal<S: Source, K: Sink>(
     let head = refused_head(alloc, report.as_str())?;
     tell(alloc, streams, &head, &[])?;
     Ok(())
+}
+
+fn send_refusal<S: Source, K: Sink, R: Printed>(
+    alloc: Global,
+    streams: &mut Streams<S, K>,
+    refusal: &R,
+) -> Status
+    ensures { EndsTelling (R.print refusal.now) result
+        (wire S.state K.state streams.old) (wire S.state K.state streams.new) }
+{
+    match give_refusal(alloc, streams, refusal) {
+        Ok(()) => Status::Refused,
+        Err(error) => Status::from(error),
+    }
 }
 
 fn give_report<S: Source, K: Sink>(
@@ -65,6 +81,16 @@ fn ran_out(refusal: &DocumentsRefusal) -> bool
     }
 }
 
+fn tags_ran_out(refusal: &TargetRefusal) -> bool
+    ensures { result ≡ tags_ran_out refusal.now }
+{
+    match refusal {
+        TargetRefusal::Taken { .. } => false,
+        TargetRefusal::Unread { .. } => false,
+        TargetRefusal::WantOfMemory => true,
+    }
+}
+
 fn deliver_report<S: Source, K: Sink>(
     alloc: Global,
     streams: &mut Streams<S, K>,
@@ -85,17 +111,30 @@ fn deliver_refusal<S: Source, K: Sink>(
     streams: &mut Streams<S, K>,
     refusal: &DocumentsRefusal,
 ) -> Status
-    ensures { EndsBy (λ r. (r ≡ Err refusal.now) × CopyTold r
+    ensures { EndsBy (λ r. (r ≡ Err (OfDocuments refusal.now)) × CopyTold r
         (wire S.state K.state streams.old) (wire S.state K.state streams.new))
         result (wire S.state K.state streams.new) }
 {
     if ran_out(refusal) {
         return Status::WantOfMemory;
     }
-    match give_refusal(alloc, streams, refusal) {
-        Ok(()) => Status::Refused,
-        Err(error) => Status::from(error),
+    send_refusal(alloc, streams, refusal)
+}
+
+/// Sends why a tag of the target refused a copy, unless memory ran out. Returns the exit status.
+pub(crate) fn deliver_taken<S: Source, K: Sink>(
+    alloc: Global,
+    streams: &mut Streams<S, K>,
+    refusal: &TargetRefusal,
+) -> Status
+    ensures { EndsBy (λ r. (r ≡ Err (OfTags refusal.now)) × CopyTold r
+        (wire S.state K.state streams.old) (wire S.state K.state streams.new))
+        result (wire S.state K.state streams.new) }
+{
+    if tags_ran_out(refusal) {
+        return Status::WantOfMemory;
     }
+    send_refusal(alloc, streams, refusal)
 }
 
 /// Sends what was pushed, or why a copy was refused, unless memory ran out. Returns the exit status.
@@ -104,7 +143,7 @@ pub(crate) fn deliver<S: Source, K: Sink>(
     streams: &mut Streams<S, K>,
     outcome: &Result<PushReport, DocumentsRefusal>,
 ) -> Status
-    ensures { EndsBy (λ r. (r ≡ outcome.now) × CopyTold r
+    ensures { EndsBy (λ r. (r ≡ copied_of outcome.now) × CopyTold r
         (wire S.state K.state streams.old) (wire S.state K.state streams.new))
         result (wire S.state K.state streams.new) }
 {

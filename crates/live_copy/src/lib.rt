@@ -1,5 +1,5 @@
-//! A copy of an image's documents with a host: they are decided on at the source, the host carries the blobs, and the
-//! target is asked for each blob before the documents are pushed.
+//! A copy of an image's documents with a host: they are decided on at the source, the target is asked what its tags name,
+//! the host carries the blobs, and the target is asked for each blob before the documents are pushed.
 #![tactic(auto)]
 
 mod delivery;
@@ -8,6 +8,7 @@ mod live;
 mod opening;
 mod pushes;
 mod settings;
+mod tags;
 
 pub use live::serve_copy;
 pub use settings::{CopySettings, TargetSettings, read_copy_settings};

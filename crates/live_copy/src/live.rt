@@ -5,21 +5,24 @@ ghost use Rattle.live_host.specs.Wire.{wire, SendsAndReceives, Wire};
 ghost use Rattle.live_pull.specs.Parts.{DeliversBy};
 ghost use Rattle.live_documents.specs.Course.{DocumentsTold};
 ghost use Rattle.live_documents.specs.Decided.{DecidedDocuments, Decides};
-ghost use Rattle.live_copy.specs.Course.{CopyEnds};
+ghost use Rattle.live_copy.specs.Course.{CopyEnds, CopyTold, OfTags};
 ghost use Rattle.live_copy.specs.Heads.{carried_of, carry_head};
 ghost use Rattle.live_copy.specs.Opening.{Opens};
-ghost use Rattle.live_copy.specs.Parts.{EndsBefore, EndsBy, HandedAndPushed, HandedOver, PushedAndTold};
+ghost use Rattle.live_copy.specs.Parts.{CarriedAndPushed, EndsBefore, EndsBy, HandedAndTold, HandedOver};
+ghost use Rattle.live_copy.specs.Parts.{PushedAndTold, TargetAndTold};
 ghost use Rattle.live_copy.specs.Settings.{AreReady};
 ghost use Rattle.live_copy.specs.declared.settings.CopySettings.{CopySettings as Settings};
 
-use crate::delivery::deliver;
+use crate::delivery::{deliver, deliver_taken};
 use crate::heads::{carry_head, side_head};
 use crate::opening::{Opened, open};
 use crate::pushes::push;
 use crate::settings::CopySettings;
+use crate::tags::ask;
 use byte_streams::{Sink, Source};
 use cosign_client::PullRefusal;
 use cosign_documents::VerifiedDocuments;
+use free_targets::TargetRefusal;
 use json_values::Json;
 use live_documents::{Decided, deliver_error, give_decided, search_and_decide};
 use live_host::{Streams, hear, is_frame, tell};
@@ -29,6 +32,8 @@ use std::alloc::Global;
 
 // Large values are dropped in functions without other facts.
 fn drop_outcome(_outcome: Result<PushReport, DocumentsRefusal>) {}
+
+fn drop_taken(_refusal: TargetRefusal) {}
 
 fn drop_documents(_documents: VerifiedDocuments) {}
 
@@ -66,7 +71,7 @@ fn await_carried<S: Source, K: Sink>(
     Err(Status::HostBroken)
 }
 
-// The documents are sent, and the host carries the blobs.
+// The documents are sent, and what follows goes to the target.
 fn hand_over<S: Source, K: Sink>(
     alloc: Global,
     streams: &mut Streams<S, K>,
@@ -79,7 +84,6 @@ fn hand_over<S: Source, K: Sink>(
     give_decided(alloc, streams, found)?;
     let side = side_head(alloc)?;
     tell(alloc, streams, &side, &[])?;
-    await_carried(alloc, streams)?;
     Ok(())
 }
 
@@ -100,20 +104,72 @@ fn push_and_tell<S: Source, K: Sink>(
     Ended { status, streams }
 }
 
-// What follows the decision: the documents are sent, the host carries the blobs, and the documents are pushed.
+// The host carries the blobs, and the documents are pushed.
+fn carry_and_push<S: Source, K: Sink>(
+    alloc: Global,
+    streams: Streams<S, K>,
+    opened: &mut Opened,
+    found: &VerifiedDocuments,
+) -> Ended<S, K>
+    ensures { EndsBy (CarriedAndPushed opened.old found.now
+        (wire S.state K.state streams) (wire S.state K.state result.streams))
+        result.status (wire S.state K.state result.streams) }
+{
+    let mut streams = streams;
+    match await_carried(alloc, &mut streams) {
+        Ok(()) => push_and_tell(alloc, streams, opened, found),
+        Err(status) => end_with(status, streams),
+    }
+}
+
+// The refusal of a tag is sent.
+fn end_taken<S: Source, K: Sink>(
+    alloc: Global,
+    streams: Streams<S, K>,
+    refusal: TargetRefusal,
+) -> Ended<S, K>
+    ensures { EndsBy (λ r. (r ≡ Err (OfTags refusal)) × CopyTold r
+        (wire S.state K.state streams) (wire S.state K.state result.streams))
+        result.status (wire S.state K.state result.streams) }
+{
+    let mut streams = streams;
+    let status = deliver_taken(alloc, &mut streams, &refusal);
+    drop_taken(refusal);
+    Ended { status, streams }
+}
+
+// What is done at the target: it is asked what its tags name, and what follows.
+fn ask_and_copy<S: Source, K: Sink>(
+    alloc: Global,
+    streams: Streams<S, K>,
+    opened: &mut Opened,
+    found: &VerifiedDocuments,
+) -> Ended<S, K>
+    ensures { EndsBy (TargetAndTold opened.old found.now
+        (wire S.state K.state streams) (wire S.state K.state result.streams))
+        result.status (wire S.state K.state result.streams) }
+{
+    let (streams, outcome) = ask(alloc, streams, opened, found);
+    match outcome {
+        Ok(()) => carry_and_push(alloc, streams, opened, found),
+        Err(refusal) => end_taken(alloc, streams, refusal),
+    }
+}
+
+// What follows the decision: the documents are sent, and what is done at the target.
 fn copy_found<S: Source, K: Sink>(
     alloc: Global,
     streams: Streams<S, K>,
     opened: &mut Opened,
     found: &VerifiedDocuments,
 ) -> Ended<S, K>
-    ensures { EndsBy (HandedAndPushed opened.old found.now
+    ensures { EndsBy (HandedAndTold opened.old found.now
         (wire S.state K.state streams) (wire S.state K.state result.streams))
         result.status (wire S.state K.state result.streams) }
 {
     let mut streams = streams;
     match hand_over(alloc, &mut streams, found) {
-        Ok(()) => push_and_tell(alloc, streams, opened, found),
+        Ok(()) => ask_and_copy(alloc, streams, opened, found),
         Err(status) => end_with(status, streams),
     }
 }
@@ -124,7 +180,7 @@ fn copy_decided<S: Source, K: Sink>(
     opened: &mut Opened,
     documents: VerifiedDocuments,
 ) -> Ended<S, K>
-    ensures { EndsBy (HandedAndPushed opened.old documents
+    ensures { EndsBy (HandedAndTold opened.old documents
         (wire S.state K.state streams) (wire S.state K.state result.streams))
         result.status (wire S.state K.state result.streams) }
 {
@@ -192,9 +248,9 @@ fn source_settings(settings: CopySettings) -> LiveSettings
 }
 
 /// Copies an image's documents with a host, after a frame `copy` was received: decides on them at the source as
-/// `serve_documents` does and sends them; waits until the host carried the blobs; asks the target for each blob, and
-/// pushes the documents as `push_documents` does; and sends what was pushed, or why it was refused. Returns the exit
-/// status and the streams.
+/// `serve_documents` does and sends them; asks what the target's tags name as `free_target` does, if a tag is pushed and
+/// may not be replaced; waits until the host carried the blobs; asks the target for each blob, and pushes the documents
+/// as `push_documents` does; and sends what was pushed, or why it was refused. Returns the exit status and the streams.
 pub fn serve_copy<S: Source, K: Sink>(
     alloc: Global,
     streams: Streams<S, K>,

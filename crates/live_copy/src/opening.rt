@@ -10,11 +10,12 @@ use oci_engine::Client;
 use pull_mirror::CopyTarget;
 use std::alloc::{AllocError, Global};
 
-/// The target's client, what it pushes to, and when (in seconds since 1970).
+/// The target's client, what it pushes to, whether its tags are asked for before, and when (in seconds since 1970).
 #[derive(Drop)]
 pub(crate) struct Opened {
     pub client: Client,
     pub to: CopyTarget,
+    pub asks: bool,
     pub moment: u64,
 }
 
@@ -35,6 +36,7 @@ pub(crate) fn open(alloc: Global, settings: &CopySettings) -> Result<Opened, All
             auth,
             tag: settings.tag,
         },
+        asks: settings.tag && !settings.replace,
         moment: settings.settings.moment,
     })
 }

@@ -33,7 +33,7 @@ pub struct CopySettings {
     /// The frame `documents` of the image at the source.
     pub settings: LiveSettings,
     pub target: TargetSettings,
-    /// Whether tags of the target may be replaced: read, and not used yet.
+    /// Whether tags of the target that name other digests are replaced; otherwise they refuse the copy.
     pub replace: bool,
     /// Whether the tag and the signature are pushed; otherwise only the manifest is.
     pub tag: bool,

@@ -19,4 +19,5 @@ pub use copies::mirror;
 pub use document_copies::{CopyTarget, push_documents};
 pub use refusals::{MirrorError, MirrorReport, PushRefusal, PushReport};
 pub use sending::push_image;
+pub use signatures::signature_text;
 pub use targets::is_target;

@@ -114,7 +114,7 @@ fn signature_manifest(
 
 /// Returns the text of the manifest that is pushed for the signature of the document of this digest: one layer, with the
 /// bytes and annotations that were pulled. A bundle's names the document as its subject.
-pub(crate) fn signature_text(
+pub fn signature_text(
     alloc: Global,
     layer: &SignatureLayer,
     digest: &Text,

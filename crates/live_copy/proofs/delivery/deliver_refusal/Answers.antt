@@ -1,6 +1,7 @@
-use Rattle.std.proofs.Common.{Err}
-use Rattle.live_copy.proofs.Ending.{host_tells}
+use Rattle.std.proofs.Common.{sym, ◌∙◌}
+use Rattle.live_copy.specs.Course.{OfDocuments}
+use Rattle.live_copy.proofs.Ending.{refusal_ends}
 use Rattle.live_copy.proofs.delivery.deliver_refusal.Goals as goal
 
-pub returns-in-Err : goal.returns-in-Err
-returns-in-Err g c = rw c.from.ensures (host_tells (Err c.args.refusal.now) c.in-Err.error _ _ c.in-Err.ensures.cause)
+pub returns : goal.returns
+returns g c = refusal_ends (OfDocuments c.args.refusal.now) c.send_refusal.result _ _ (sym c.ran_out.ensures ∙ c.if-ran_out.false) c.send_refusal.ensures

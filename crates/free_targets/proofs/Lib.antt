@@ -1,0 +1,2 @@
+pub mod AskedTags
+pub mod BothTags

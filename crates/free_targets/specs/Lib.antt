@@ -1,0 +1,4 @@
+pub mod FreeTargets
+pub mod Prints
+pub mod Steps
+pub mod Taken

@@ -1,0 +1,9 @@
+use Rattle.live_copy.specs.Parts.{CarriedAndPushed}
+use Rattle.live_copy.proofs.Ending.{before_ends, carried_ends}
+use Rattle.live_copy.proofs.live.carry_and_push.Goals as goal
+
+pub returns-in-Ok : goal.returns-in-Ok
+returns-in-Ok g c = carried_ends c.args.opened.now c.args.found.now _ _ _ c.push_and_tell.result.status c.in-Ok.ensures.carried c.push_and_tell.ensures
+
+pub returns-in-Err : goal.returns-in-Err
+returns-in-Err g c = rw c.end_with.ensures (before_ends (CarriedAndPushed c.args.opened.now c.args.found.now _ _) c.in-Err.status _ c.in-Err.ensures.cause)
