@@ -1,56 +1,22 @@
 """Certificates of signers under a sigstore trusted root: who is vouched for at the time of the log entry. Nothing is asked over the network."""
 import base64
-import hashlib
 import json
-import re
-import warnings
 from calendar import timegm
 from datetime import datetime, timezone
 from pathlib import Path
-from typing import Any, NamedTuple
+from typing import Any
 
 from cryptography import x509
 from cryptography.hazmat.primitives.hashes import SHA256, SHA384, SHA512
-from cryptography.hazmat.primitives.serialization import Encoding, PublicFormat
-from cryptography.utils import CryptographyDeprecationWarning
+from cryptography.hazmat.primitives.serialization import Encoding
 from cryptography.x509.oid import ExtendedKeyUsageOID as Purpose
 
-from host.keys import load, normalized, verifies
+from host.keys import normalized, verifies
+from host.rules import Identity, LogKey, key_id
 
 CHECKED = (x509.BasicConstraints, x509.KeyUsage, x509.ExtendedKeyUsage, x509.SubjectAlternativeName)
 RAW_ISSUER, ISSUER = x509.ObjectIdentifier("1.3.6.1.4.1.57264.1.1"), x509.ObjectIdentifier("1.3.6.1.4.1.57264.1.8")
 EPOCH = datetime(1970, 1, 1, tzinfo=timezone.utc)
-warnings.simplefilter("error", CryptographyDeprecationWarning)  # such as of a negative serial number: refused, and not printed
-
-
-class LogKey(NamedTuple):
-    """The key of a log, as PEM text, and from when to when the log signs with it, in seconds since 1970."""
-    key: bytes
-    start: float = 0
-    end: float = float("inf")
-
-
-class Identity:
-    """Who may sign: the email address or URL of the certificate and who vouched for it, each as a string or as a pattern to search for in it."""
-
-    def __init__(self, subject: str | None, subject_pattern: str | None, issuer: str | None, issuer_pattern: str | None) -> None:
-        self.exact = (subject or None, issuer or None)
-        if bool(subject) == bool(subject_pattern) or bool(issuer) == bool(issuer_pattern):
-            raise ValueError("an identity needs a subject and an issuer (--certificate-identity, --certificate-oidc-issuer), as strings or patterns")
-        try:
-            with warnings.catch_warnings(action="error"):  # of what cosign and Python read differently
-                self.patterns = [re.compile(pattern or "", re.ASCII) for pattern in (subject_pattern, issuer_pattern)]
-        except (re.error, Warning, RecursionError, OverflowError) as error:
-            raise ValueError(f"a pattern of an identity is not a regular expression: {error}") from None
-
-    def accepts(self, names: tuple[str, str]) -> bool:
-        """Whether the subject and the issuer are these."""
-        return all(exact in (None, name) and pattern.search(name) for name, exact, pattern in zip(names, self.exact, self.patterns))
-
-
-def key_id(key: bytes) -> str:
-    """SHA-256 of a key's DER form in hexadecimal: the id of a log."""
-    return hashlib.sha256(load(key).public_bytes(Encoding.DER, PublicFormat.SubjectPublicKeyInfo)).hexdigest()
 
 
 def extension(certificate: x509.Certificate, kind: type) -> Any:

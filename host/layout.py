@@ -11,7 +11,6 @@ import os
 import re
 import shutil
 import stat
-import tarfile
 from pathlib import Path
 from typing import Any, BinaryIO, Iterable
 
@@ -38,6 +37,17 @@ def sync(path: Path) -> None:
     number = os.open(path, os.O_RDONLY)
     os.fsync(number)
     os.close(number)
+
+
+def sync_all(paths: list[Path]) -> None:
+    """The same of all of them: of many side by side, since a disk does some in the time of one."""
+    if len(paths) < 32:
+        for path in paths:
+            sync(path)
+    else:
+        from multiprocessing.pool import ThreadPool  # which takes a while
+        with ThreadPool(4) as pool:
+            pool.map(sync, paths, 1)
 
 
 def read_index(folder: Path) -> dict[str, Any]:
@@ -128,13 +138,12 @@ class Layout:
         path.parent.mkdir(parents=True, exist_ok=True)
         return path.with_name(f".{path.name}-{mark}")
 
-    def keep(self, digest: str, mark: str) -> None:
-        """Gives a blob its name, since the core has said so of its bytes."""
-        hidden, name = self.hidden(digest, mark), blob_name(digest)
-        if hidden.exists():
-            sync(hidden)
-            hidden.rename(self.work / name)
-        self.names.add(name)
+    def keep(self, digests: Iterable[str], mark: str) -> None:
+        """Gives blobs their names, since the core has said so of their bytes."""
+        for digest in digests:
+            with contextlib.suppress(FileNotFoundError):  # it was there before
+                self.hidden(digest, mark).rename(self.work / blob_name(digest))
+            self.names.add(blob_name(digest))
 
     def put(self, name: str, pieces: Iterable[bytes]) -> None:
         with self.create(name) as file:
@@ -166,11 +175,11 @@ class Layout:
                 path.unlink()
         files = sorted(path for path in self.work.rglob("*") if path.is_file())
         if self.form != "oci":
+            import tarfile  # which takes a while, and only this needs
             with tarfile.open(self.work / "archive", "w") as archive:
                 for path in files:
                     archive.add(path, path.relative_to(self.work))
-        for path in (*self.work.rglob("*"), self.work):
-            sync(path)
+        sync_all([*self.work.rglob("*"), self.work])
 
     def place(self) -> None:
         """Moves it to its place, the index last, so that it names nothing that is not there."""
@@ -210,8 +219,6 @@ class Stored:
         return made
 
     def ahead(self) -> None: ...
-
-    def close(self) -> None: ...
 
     def turn(self, side: str) -> None: ...
 

@@ -12,9 +12,10 @@ from host.conversation import Exchanges, Sent, converse
 from host.core import Core, Frame
 from host.layout import BUNDLE, MANIFEST, Layout, Stored, digest_of
 from host.network import Network
-from host.policy import Rule, repository_of
+from host.places import repository_of
 from host.refusals import Refusals
 from host.release import program
+from host.rules import Rule
 from host.signatures import Signatures
 from host.terminal import End
 
@@ -165,8 +166,6 @@ class Pinned:
     def ahead(self) -> None: ...
 
     def turn(self, side: str) -> None: ...
-
-    def close(self) -> None: ...
 
     def reply(self, frame: Frame, body: Iterable[bytes] = ()) -> tuple[Frame, bytes]:
         if frame["frame"] == "request":

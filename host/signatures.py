@@ -4,9 +4,8 @@ import json
 from hashlib import sha256
 from typing import Any
 
-from host.certificates import vouched
 from host.keys import normalized, verifies
-from host.policy import Rule
+from host.rules import Rule
 
 Logged = tuple[str, str, bytes, bytes]
 
@@ -53,6 +52,7 @@ class Signatures:
         """What the certificate vouches for at the time of its log entry."""
         if not self.rule.root:
             raise ValueError("it is signed with a certificate, and no identity with a trusted root is given to accept it by")
+        from host.certificates import vouched  # loaded with the root
         found = vouched(certificate, time, self.rule.root, self.rule.identities)
         self.vouched.setdefault(base64.b64decode(found["key"]), {})[time] = f"{found.get('email') or found.get('url')} of {found['issuer']}"
         return found

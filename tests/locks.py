@@ -1,21 +1,14 @@
-"""Cases of `tests/live`: documents alone, lock files and admission, with a real registry."""
-import base64
-import contextlib
-import http.client
+"""Cases of `tests/live`: documents alone and lock files, with a real registry."""
 import json
-import re
-import shutil
-import ssl
 import subprocess
 import sys
-import time
 from pathlib import Path
 
 TOP = Path(__file__).resolve().parent.parent
 sys.path[:0] = [str(TOP), str(TOP / "tests")]
 import keyless  # noqa: E402
 from cryptography.hazmat.primitives.serialization import load_pem_private_key  # noqa: E402
-from registry import INDEX, Skipped, asked, digest_of, door, layers_of, make_layout, put_referrers, ran, sign  # noqa: E402
+from registry import INDEX, asked, digest_of, door, layers_of, make_layout, put_referrers, ran, sign  # noqa: E402
 
 COMMAND = TOP / "bin/roksnaep"
 
@@ -129,58 +122,4 @@ def pulls_what_is_locked(live):
     return told[1]
 
 
-@contextlib.contextmanager
-def webhook(live, rules, *words):
-    """`roksnaep admit` over a policy, and how it answers the review of a Pod."""
-    folder = live.folder / "admission"
-    shutil.rmtree(folder, ignore_errors=True)
-    folder.mkdir()
-    ran("openssl", "req", "-x509", "-newkey", "rsa:2048", "-nodes", "-keyout", folder / "tls.key", "-out", folder / "tls.crt", "-subj", "/CN=localhost",
-        "-addext", "subjectAltName=DNS:localhost,IP:127.0.0.1", "-days", "2")
-    (folder / "policy.json").write_text(json.dumps({"version": 1, "rules": rules}))
-    files = ["--policy", folder / "policy.json", "--cert", folder / "tls.crt", "--private-key", folder / "tls.key", "--listen", "127.0.0.1:0"]
-    server = subprocess.Popen([COMMAND, "admit", *files, *words], stderr=subprocess.PIPE, text=True, env=live.environment)
-    line = server.stderr.readline()
-    if "aiohttp" in line:
-        raise Skipped("python3-aiohttp is not installed")
-
-    def post(*images, path="/validate"):
-        containers = [{"name": f"c{at}", "image": image} for at, image in enumerate(images)]
-        review = {"kind": "AdmissionReview", "apiVersion": "admission.k8s.io/v1", "request": {"uid": "u", "namespace": "team", "object": {"spec": {"containers": containers}}}}
-        connection = http.client.HTTPSConnection("127.0.0.1", int(line.rpartition(":")[2]), context=ssl.create_default_context(cafile=folder / "tls.crt"), timeout=60)
-        connection.request("POST", f"{path}?timeout=10s", json.dumps(review), {"Content-Type": "application/json"})
-        return json.loads(connection.getresponse().read())["response"]
-
-    try:
-        yield post
-    finally:
-        server.terminate()
-        server.communicate(timeout=30)
-
-
-def admits_signed_images(live):
-    """A signed Pod is allowed and pinned; an unsigned one, another key's, one under no rule and no reference are denied; a moved tag leaves the pin."""
-    layout = live.folder / "admitted-image"
-    named = make_layout(layout, layers_of("admitted", [2000]))
-    live.push(layout, "team/admitted:v1")
-    live.push(layout, "team/unsigned:v1")
-    sign(live.place, "team/admitted", named["digest"], live.key)
-    image = f"{live.place}/team/admitted:v1"
-    with webhook(live, [{"images": f"{live.place}/team", "keys": [str(live.public)]}, {"images": f"{live.place}/app", "keys": [str(live.other)]}], "--jobs", "2") as post:
-        assert post(image) == {"uid": "u", "allowed": True}
-        patch = json.loads(base64.b64decode(post(image, path="/mutate")["patch"]))
-        pinned = f"{image}@{named['digest']}"
-        assert patch == [{"op": "replace", "path": "/spec/containers/0/image", "value": pinned}], patch
-        assert post(pinned)["allowed"]
-        live.push(live.folder / "image", "team/admitted:v1")
-        assert post(pinned)["allowed"]
-        said = post(pinned, f"{live.place}/team/unsigned:v2", f"{live.place}/app:v1", f"{live.place}/other:v1", f"{live.place}/team/Not A Reference")
-        denied = re.findall(r"(?:^|; )(c\d): ", said["status"]["message"])
-        assert not said["allowed"] and denied == ["c1", "c2", "c3", "c4"], said
-        assert "Unsatisfied" in said["status"]["message"] and "NoRule" in said["status"]["message"], said
-        began = time.monotonic()
-        assert all(post(pinned)["allowed"] for _ in range(20)) and time.monotonic() - began < 20
-    return said["status"]["message"] + "\n"
-
-
-CASES = [verifies_documents_alone, locks_images, refuses_an_edited_lock, pulls_what_is_locked, admits_signed_images]
+CASES = [verifies_documents_alone, locks_images, refuses_an_edited_lock, pulls_what_is_locked]

@@ -23,8 +23,8 @@ sys.path[:0] = [str(TOP), str(TOP / "tests")]
 
 import keyless  # noqa: E402
 from keyless import EMAIL, ISSUER, NOW, SIGN, URL, USER, YEAR, Sigstore, counted, pem, pre_authentication, signed, usage  # noqa: E402
-from host.certificates import Identity, TrustedRoot, vouched  # noqa: E402
-from host.policy import Rule  # noqa: E402
+from host.certificates import TrustedRoot, vouched  # noqa: E402
+from host.rules import Identity, Rule  # noqa: E402
 from host.signatures import Signatures as Answers  # noqa: E402
 
 WHO, WORKFLOW = "release@example.com", "https://ci.example.com/team/app/.build/release.yml@refs/heads/main"
@@ -543,7 +543,7 @@ class Counting(WithRoot):
         """What a library warns of is refused, and not printed: a certificate with a negative serial number."""
         data = bytearray(self.sigstore.certificate(WHO)[1].public_bytes(Encoding.DER))
         data[data.index(b"\xa0\3\2\1\2") + 7] |= 0x80
-        script = ("import sys; sys.path.insert(0, sys.argv[1])\nfrom pathlib import Path\nfrom host.certificates import Identity\nfrom host.policy import Rule\n"
+        script = ("import sys; sys.path.insert(0, sys.argv[1])\nfrom pathlib import Path\nfrom host.rules import Identity, Rule\n"
                   "from host.signatures import Signatures\ns = Signatures(Rule([], [Identity(None, '.', None, '.')], {}, Path(sys.argv[2])))\n"
                   "print(s.reply({'frame': 'judge', 'certificate': sys.argv[3], 'integrated_time': int(sys.argv[4])}), s.why)")
         done = subprocess.run([sys.executable, "-c", script, TOP, self.sigstore.write(self.folder), keyless.b64(data), str(NOW)], capture_output=True, text=True, check=True)

@@ -10,7 +10,9 @@ from unittest import mock
 from support import CONFIG, IMAGE, LAYERS, MANIFEST, TOP, WithFolder, digest_of, manifest_of, registry
 
 import host.layout
+from host.checks import fits, refusal
 from host.layout import Layout, Stored
+from host.refusals import Refusals
 
 
 class Places(WithFolder):
@@ -183,11 +185,23 @@ class Check(WithFolder):
         file = self.folder / "out/image/blobs/sha256" / digest_of(LAYERS[0])[7:]
         file.write_bytes(b"x")
         status, _, err = self.check()
-        self.assertEqual((status, f"the content with the digest {digest_of(LAYERS[0])} has the digest" in err), (1, True))
+        self.assertEqual((status, err), (1, f"refused out/image: the blob {digest_of(LAYERS[0])} is missing, or is not the one that the manifest names; pull the image again\n"))
         file.unlink()
-        self.assertEqual(self.check()[0], 1)
+        status, out, err = self.check("--json")
+        self.assertEqual((status, err, digest_of(LAYERS[0]) in json.loads(out)["sentence"]), (1, "", True))
         (self.folder / "out/image/blobs/sha256" / digest_of(self.signature[0])[7:]).unlink()
         self.assertEqual(self.check()[0], 1)
+
+    def test_cores_that_get_blobs(self):
+        """How a core ends over a range is how the check ends; documents that no line has are checked as a pull is."""
+        with registry(documents=self.signed()) as (place, _):
+            self.assertEqual(self.pull(place)[0], 0)
+        for fake, told in ("check 6", (6, "out of memory")), ("check 4", (4, "the core ended unexpectedly")), ("blobs 6", (0, "")):
+            status, _, err = self.check(fake=fake)
+            self.assertEqual((status, told[1] in err), (told[0], True), err)
+        word = {"frame": "check", "entry": {"first": "x" * (1 << 20)}}
+        self.assertEqual((fits(word), fits(word | {"entry": {}})), (False, True))
+        self.assertIn("its documents do not hold", Refusals({}, "").sentence("image", refusal({"frame": "checked", "verdict": "documents"})["report"]))
 
     def setUpOther(self):
         subprocess.run("openssl ecparam -name prime256v1 -genkey -noout | openssl ec -pubout -out other", shell=True, check=True, cwd=self.folder, capture_output=True)

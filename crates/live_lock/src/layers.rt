@@ -1,8 +1,14 @@
 // The signature layers of a lock, about which the host is asked.
+ghost use Rattle.std.specs.Prelude.{IfOk, IfErr};
+ghost use Rattle.live_host.specs.HostErrors.{HostCause};
+ghost use Rattle.live_host.specs.Questions.{WereAsked};
+ghost use Rattle.live_host.specs.Wire.{wire};
+
+use byte_streams::{Sink, Source};
 use cosign_layers::{LayerRejection, read_bundle_layer, read_payload_layer};
 use cosign_parts::{LayerKind, LogKeys, SignatureLayer};
 use json_values::{Blob, List};
-use live_host::Everyone;
+use live_host::{Answers, Everyone, HostError, Streams, ask_layers};
 use pull_lock::{Lock, LockEntry};
 use std::alloc::{AllocError, Global};
 
@@ -62,4 +68,22 @@ pub(crate) fn layers_in(
         add_layer(alloc, log_keys, entry, &mut layers)?;
     }
     Ok(layers)
+}
+
+/// Asks the host everything that must be known about the signature layer of an entry. Nothing is asked about one that is
+/// not about the entry's digest, whatever the signatures.
+pub fn ask_entry<S: Source, K: Sink>(
+    alloc: Global,
+    streams: &mut Streams<S, K>,
+    keys: &[Blob],
+    log_keys: &LogKeys,
+    entry: &LockEntry,
+) -> Result<Answers, HostError>
+    ensures asked { IfOk result (λ answers. WereAsked answers.list (wire S.state K.state streams.old)
+        (wire S.state K.state streams.new)) }
+    ensures cause { IfErr result (λ e. HostCause e (wire S.state K.state streams.new)) }
+{
+    let mut layers = List::new(alloc);
+    add_layer(alloc, log_keys, entry, &mut layers)?;
+    ask_layers(alloc, streams, keys, log_keys, layers.as_slice())
 }

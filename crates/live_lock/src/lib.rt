@@ -6,6 +6,9 @@ mod heads;
 mod layers;
 mod serve;
 mod settings;
+mod terms;
 
+pub use layers::ask_entry;
 pub use serve::serve_lock;
 pub use settings::{LockSettings, read_lock_settings};
+pub use terms::{Terms, promise_of, terms_in};

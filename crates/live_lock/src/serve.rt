@@ -1,5 +1,5 @@
 // The check of a lock, from its settings to its verdict.
-ghost use Rattle.std.specs.Prelude.{◌≡◌, IfOk, IfErr, option_copied};
+ghost use Rattle.std.specs.Prelude.{◌≡◌, IfOk, IfErr};
 ghost use Rattle.cosign_layers.specs.Satisfying.{policy_context};
 ghost use Rattle.cosign_parts.specs.Trust.{trust};
 ghost use Rattle.live_host.specs.Answers.{valid_by, vouched_by};
@@ -13,51 +13,13 @@ ghost use Rattle.live_lock.specs.Heads.{is_held};
 use crate::heads::{unread_head, verdict_head};
 use crate::layers::layers_in;
 use crate::settings::LockSettings;
+use crate::terms::{Terms, promise_of, terms_in};
 use byte_streams::{Sink, Source};
-use cosign_layers::{Constraint, PullPolicy};
-use cosign_parts::LogKeys;
-use json_values::List;
 use live_host::{Answers, HostError, Streams, ask_layers, tell};
 use live_pull::{Ended, LiveSettings, Status};
-use oci_descriptors::{PlatformResolver, ResolverPromise};
 use pull_lock::{Lock, LockError, LockVerdict, check_lock, read_lock};
 use recorded_case::constraints_from;
 use std::alloc::{AllocError, Global};
-
-/// The terms that a lock is checked under.
-#[derive(Drop)]
-pub(crate) struct Terms {
-    pub platform: Option<PlatformResolver>,
-    pub policy: PullPolicy,
-    pub log_keys: LogKeys,
-}
-
-fn terms_in(settings: LiveSettings, constraints: List<Constraint>) -> Terms
-    ensures { result ≡ record {
-      platform = settings.platform;
-      policy = record { keys = settings.keys; constraints = constraints };
-      log_keys = settings.log_keys;
-    } }
-{
-    Terms {
-        platform: settings.platform,
-        policy: PullPolicy {
-            keys: settings.keys,
-            constraints,
-        },
-        log_keys: settings.log_keys,
-    }
-}
-
-// The promise of a resolver, if there is one.
-fn promise_of(platform: &Option<PlatformResolver>) -> Option<&ResolverPromise>
-    ensures { option_copied result ≡ platform.now }
-{
-    match platform {
-        Some(resolver) => Some(resolver.promise()),
-        None => None,
-    }
-}
 
 fn check_under(
     alloc: Global,

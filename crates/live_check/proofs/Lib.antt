@@ -1,0 +1,6 @@
+pub mod Ends
+pub mod FrameReads
+pub mod InTurn
+pub mod PartsIn
+pub mod Pieces
+pub mod Policies
