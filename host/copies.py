@@ -1,4 +1,4 @@
-"""Copies: an image that is verified at its source, and pushed to a target with the signature that stood for it. Its blobs are checked by cores side by side."""
+"""Copies: an image that is verified at its source, and pushed to a target with the signature that stood for it. Its blobs are carried by cores side by side."""
 import argparse
 import json
 import tempfile
@@ -8,12 +8,13 @@ from typing import Iterable
 
 from host.blobs import Blobs, Refused, parsed, refused_layer
 from host.carriers import Skopeo
+from host.carry import HELD, Carry
 from host.conversation import Exchanges, Sent, converse
 from host.core import Core, Frame
 from host.layout import Layout
 from host.network import Network
-from host.policy import Rule
 from host.refusals import Refusals
+from host.rules import Rule
 from host.signatures import Signatures
 from host.terminal import End, failed
 
@@ -50,10 +51,6 @@ class Sides:
         self.now.leave()
         self.now = self.both[side]
 
-    def close(self) -> None:
-        for network in self.both.values():
-            network.close()
-
     def reply(self, frame: Frame, body: Iterable[bytes] = ()) -> tuple[Frame, bytes]:
         answer, data = self.now.reply(frame, body)
         self.failure = self.now.failure or self.failure
@@ -67,7 +64,9 @@ class Copy:
 
     def __init__(self, option: argparse.Namespace, rule: Rule, settings: Frame, target: Frame, sides: Sides) -> None:
         self.option, self.rule, self.settings, self.target, self.sides = option, rule, settings, target, sides
-        self.signatures, self.skopeo = Signatures(rule), Skopeo(target, option.target_ca, option.proxy)
+        self.signatures, self.states = Signatures(rule), dict[str, str]()  # of each blob, whether it was `there` or `pushed`
+        if target["auth"] != "anonymous" and "basic" not in target["auth"]:
+            raise ValueError("a registry token is kept for the target, with which nothing can be pushed; use a user and a password")
 
     def decide(self, core: Core) -> tuple[int, str, Frame]:
         """The status, the sentence and the core's last frame."""
@@ -83,7 +82,9 @@ class Copy:
         told = f"copied {name} to {self.option.target}: {digest}, signed by {signature}{signer and f' ({signer})'}"
         if sent["signature"]["kind"] == "bundle" and not (self.sides.pushed and self.sides.pushed[-1]):
             told += "; the target does not list referrers, so the signature is found there by its digest alone"
-        return 0, told, end | {"digest": digest, "manifest": sent["manifest"]["digest"], "signature": signature, "signer": signer, "target": self.option.target}
+        there = [digest for digest, state in self.states.items() if state == "there"]
+        told += f"; {len(there)} of {len(self.states)} blobs were there already, and not pulled" if there else ""
+        return 0, told, end | {"there": there} | {"digest": digest, "manifest": sent["manifest"]["digest"], "signature": signature, "signer": signer, "target": self.option.target}
 
     def copied(self, core: Core, settings: Frame, exchanges: Exchanges, tag: bool) -> Refused:
         """The last frame of a core that copies, and who was asked before it; or why its blobs are not at the target."""
@@ -101,8 +102,6 @@ class Copy:
     def carried(self, settings: Frame, sent: Sent, tag: bool) -> Refused | None:
         """Carries the blobs of the documents that the core has decided, and before them, if all are asked for, copies the other images of the index."""
         documents, kinds = {frame["kind"]: content for frame, content in sent if frame["frame"] == "document"}, kinds_of(sent)
-        if tag and not self.option.replace and (refused := self.skopeo.taken(first_of(kinds), kinds["signature"])):
-            return refused, self.sides
         if tag and self.option.all and "index" in documents:
             entries = dict.fromkeys(entry["digest"] for entry in json.loads(documents["index"])["manifests"])
             for other in (digest for digest in entries if digest != kinds["manifest"]["digest"]):
@@ -112,23 +111,31 @@ class Copy:
         return self.carry_blobs(settings, kinds["manifest"], documents["manifest"])
 
     def carry_blobs(self, settings: Frame, frame: Frame, content: bytes) -> Refused | None:
-        """Has the blobs checked as a pull does, into a layout that is removed again, and pushed from there."""
+        """Has the blobs carried by cores, and those that are too large for them by skopeo."""
         try:
             manifest = parsed(content)
         except ValueError as error:
             raise End(1, f"its manifest cannot be copied, since a frame cannot have it: {error}") from None
         if refused := refused_layer(self.option.place, manifest, self.option.type):
             return refused, self.sides
+        large = [layer for layer in manifest["layers"] if layer["size"] > HELD]
+        skopeo = Skopeo(self.target, self.option.target_ca, self.option.proxy) if large else None
+        carry = Carry({"frame": "carry", "settings": settings, "target": self.target, "manifest": manifest}, self.sides.beside)
+        refusal = carry.run()
+        self.states = carry.states | {layer["digest"]: "pushed" for layer in large} | self.states
+        return refusal or (self.push(skopeo, {"frame": "blobs", "settings": settings, "manifest": manifest | {"layers": large}}, frame, content) if skopeo else None)
+
+    def push(self, skopeo: Skopeo, word: Frame, frame: Frame, content: bytes) -> Refused | None:
+        """Has blobs checked as a pull does, into a layout that is removed again, and pushed from there."""
         with tempfile.TemporaryDirectory(prefix="roksnaep-") as folder:
             layout = Layout(Path(folder) / "image", "oci", None)
             layout.manifest = {"mediaType": frame["media_type"], "digest": frame["digest"], "size": frame["bytes"]}
             layout.add(frame["digest"], [content])
-            word = {"frame": "blobs", "settings": settings, "manifest": manifest}
             if refusal := Blobs(word, self.sides.both["source"].beside, layout).run():
                 return refusal
             layout.finish(self.option.place, frame["digest"], {})
-            if said := self.skopeo.push(layout.work, frame["digest"]):
-                raise End(1, f"its blobs were not pushed to {self.option.target}: {said}")
+            if said := skopeo.push(layout.work, frame["digest"]):
+                raise End(1, f"its large blobs were not pushed to {self.option.target}: {said}")
         return None
 
 

@@ -1,7 +1,6 @@
 """Where requests may go: URLs, public addresses, and the rules of one pull. Nothing is connected here."""
 import ipaddress
 import re
-import urllib.request
 from pathlib import Path
 from typing import Any, Iterable, NamedTuple
 
@@ -49,6 +48,14 @@ def is_public(host: str) -> bool:
     return ip.is_global and not ip.is_multicast and (ip.version == 4 or ip in GLOBAL)
 
 
+def repository_of(reference: str) -> str:
+    """Registry and repository of a reference, as the core parses it."""
+    first, slash, rest = reference.partition("/")
+    registry, path = (first.lower(), rest) if slash and ("." in first or ":" in first or first == "localhost") else ("docker.io", reference)
+    path = path.partition("@")[0].partition(":")[0]
+    return f"docker.io/{'' if '/' in path else 'library/'}{path}" if registry in ("docker.io", "index.docker.io") else f"{registry}/{path}"
+
+
 class Access:
     """How one registry, named as in a reference, is reached: over http or not, and to which other hosts alone requests go, if any are named."""
 
@@ -80,7 +87,8 @@ class Access:
 
     def proxy_to(self, place: Place) -> str:
         """The proxy by which a place is reached, or nothing. By the environment this machine is not asked for over a proxy."""
-        if self.proxy or is_loopback(place.host) or urllib.request.proxy_bypass(f"{place.host}:{place.port}"):
+        if self.proxy or is_loopback(place.host):
             return self.proxy or ""
-        found = urllib.request.getproxies()
+        from urllib.request import getproxies, proxy_bypass  # which take a while
+        found = {} if proxy_bypass(f"{place.host}:{place.port}") else getproxies()
         return found.get(place.scheme) or found.get("all") or ""

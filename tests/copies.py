@@ -15,6 +15,7 @@ sys.path[:0] = [str(TOP), str(TOP / "tests")]
 import keyless  # noqa: E402
 from cryptography.hazmat.primitives.serialization import load_pem_private_key  # noqa: E402
 from locks import indexed  # noqa: E402
+from pulls import large_image  # noqa: E402
 from real_parts import certificates  # noqa: E402
 from registry import HASH, MANIFEST, Registry, asked, digest_of, door, json_token, layers_of, make_layout, put_referrers, ran, sign  # noqa: E402
 
@@ -71,9 +72,21 @@ def copies_an_image(live):
             live.pulls(f"{place}/copy:v1", live.folder / "image")
             assert live.ran(["verify", f"{place}/copy:v1", "--key", live.public, "--blobs", "--annotation", "stage=production"])[0] == 0
             seen.clear()
-            copies(live, source, f"{place}/copy:v1")
+            again = copies(live, source, f"{place}/copy:v1")
             small = [path for command, path in seen if command == "PATCH"]
             assert len(small) <= 2, small  # of the payload, and of {}
+            assert again["sentence"].endswith("; 5 of 5 blobs were there already, and not pulled") and set(map(digest_of, live.layers)) < set(again["there"]), again
+    return told["sentence"]
+
+
+def copies_a_layer_that_no_core_holds(live):
+    """One of more than 128 MiB is pushed by skopeo, the other one by a core."""
+    _, layers = large_image(live, "with-a-large-one", [129, 1])
+    with target(live, "large-copied") as registry:
+        told = copies(live, f"{live.place}/with-a-large-one:v1", f"{registry.place}/copy:v1")
+        for layer in layers:
+            assert registry.blob_file(layer["digest"]).stat().st_size == layer["size"], layer
+        assert live.ran(["verify", f"{registry.place}/copy:v1", "--key", live.public, "--blobs"])[0] == 0
     return told["sentence"]
 
 
@@ -163,14 +176,14 @@ def copies_with_credentials_of_each(live):
             (folder / "auth.json").write_text(json.dumps(config))
             copies(live, f"{here}/app:v1", f"{there}/copy:v2", "--authfile", folder / "auth.json")
             fails(live, "two users have two passwords", f"{here}/app:v1", f"{there}/copy:v1", *words, input="one\n", status=2)
-            fails(live, "unauthorized", f"{here}/app:v1", f"{there}/copy:v3", *words, input="right password\nwrong\n")
+            fails(live, "needs credentials, or other ones", f"{here}/app:v1", f"{there}/copy:v3", *words, input="right password\nwrong\n")
     finally:
         source.stop()
     return told["sentence"]
 
 
 def replaces_a_tag_only_if_it_may(live):
-    """A tag that is there with another digest refuses the copy before anything is sent."""
+    """A tag that is there with another digest, also that of the signatures, refuses the copy before anything is sent."""
     other = make_layout(live.folder / "in-the-way", layers_of("in-the-way", [900]))
     with target(live, "replaced") as registry:
         to = f"{registry.place}/copy:v1"
@@ -179,6 +192,13 @@ def replaces_a_tag_only_if_it_may(live):
         assert digest_of(raw(to)) == other["digest"] and not registry.blob_file(digest_of(live.layers[3])).exists()
         copies(live, f"{live.place}/app:v1", to, "--replace")
         assert digest_of(raw(to)) == live.image["digest"]
+        copies(live, f"{live.place}/app:v1", to)
+        signatures = f"copy:{live.image['digest'].replace(':', '-')}.sig"
+        live.push(live.folder / "in-the-way", signatures, registry.place)
+        assert signatures in fails(live, other["digest"], f"{live.place}/app:v1", to)
+        assert digest_of(raw(f"{registry.place}/{signatures}")) == other["digest"]
+        copies(live, f"{live.place}/app:v1", to, "--replace")
+        assert digest_of(raw(f"{registry.place}/{signatures}")) != other["digest"]
     return told
 
 
@@ -218,5 +238,5 @@ def copies_over_tls(live):
         return fails(live, "certificate", f"{live.place}/app:v1", f"{registry.place}/copy:v2", "--target-ca", certificates(live.folder / "copy-tls-other"))
 
 
-CASES = [copies_an_image, copies_nothing_that_another_key_signed, copies_an_index, goes_on_with_a_copy_that_broke_off, copies_with_credentials_of_each, replaces_a_tag_only_if_it_may,
+CASES = [copies_an_image, copies_a_layer_that_no_core_holds, copies_nothing_that_another_key_signed, copies_an_index, goes_on_with_a_copy_that_broke_off, copies_with_credentials_of_each, replaces_a_tag_only_if_it_may,
          says_that_a_bundle_is_not_listed, leaves_no_tag_when_stopped, copies_over_tls]

@@ -96,8 +96,41 @@ class Copies(WithFolder):
             self.assertEqual(puts[-2:], ["/v2/copy/manifests/v1", f"/v2/copy/manifests/{digest_of(MANIFEST).replace(':', '-')}.sig"])
             self.assertTrue(all(path.startswith(("/v2/app/", "/v2/")) for _, path, _ in handler.seen) and all(path.startswith("/v2/") and "/app/" not in path for _, path, _ in other.seen))
             other.seen.clear()
+            handler.seen.clear()
             told = json.loads(self.copy(source, to, "--json")[1])
-            self.assertEqual((told["outcome"], told["target"]), ("copied", f"{to}/copy:v1"))
+            self.assertEqual((told["outcome"], told["target"], set(told["there"])), ("copied", f"{to}/copy:v1", {digest_of(x) for x in IMAGE[1:]}))
+            self.assertTrue(told["sentence"].endswith("; 3 of 3 blobs were there already, and not pulled"), told["sentence"])
+            self.assertFalse([path for _, path, _ in handler.seen if path.endswith(tuple(map(digest_of, IMAGE[1:])))])
+
+    def test_some_blobs_are_there(self):
+        with registry(documents=self.signed()) as (source, handler), target() as (to, other):
+            other.documents[f"/v2/copy/blobs/{digest_of(LAYERS[1])}"] = LAYERS[1]
+            status, out, err = self.copy(source, to)
+            self.assertEqual((status, err, out.endswith("; 1 of 3 blobs were there already, and not pulled\n")), (0, "", True), out)
+            self.assertFalse([path for _, path, _ in handler.seen if path.endswith(digest_of(LAYERS[1]))])
+
+    def test_a_blob_that_breaks_off_at_the_source(self):
+        """Another core begins anew, at most five for a blob; what breaks at the target is not sent once more."""
+        for breaks, ended in ((1, 0), (99, 1)):
+            seen = []
+
+            def broken(at):
+                seen.append(at.path)
+                if len(seen) > breaks:
+                    return at.usual()
+                at.answer(200, LAYERS[1][:1 << 20], [("Content-Length", str(len(LAYERS[1])))])
+                at.close_connection = True
+                return None
+            with registry(documents=self.signed(), **{"_blobs_" + digest_of(LAYERS[1]): broken}) as (source, _), target() as (to, other):
+                status, _, err = self.copy(source, to)
+                self.assertEqual((status, len(seen)), (ended, 5 if ended else 2), err)
+                self.assertEqual("/v2/copy/manifests/v1" in other.documents, not ended)
+
+    def test_a_core_that_ends(self):
+        for fake, wanted in (("carry 4", 4), ("carry 6", 6), ("carry 3", 3)):
+            with registry(documents=self.signed()) as (source, _), target() as (to, other):
+                status, _, err = self.copy(source, to, fake=fake)
+                self.assertEqual((status, err.count("\n"), "/v2/copy/manifests/v1" in other.documents), (wanted, 1, False), err)
 
     def test_a_tag_that_is_there(self):
         with registry(documents=self.signed()) as (source, _), target() as (to, other):
@@ -108,8 +141,23 @@ class Copies(WithFolder):
             self.assertEqual(self.copy(source, to, "--replace")[0], 0)
             self.assertEqual(other.documents["/v2/copy/manifests/v1"], MANIFEST)
 
+    def test_a_signature_tag_that_is_there(self):
+        """Other signatures under the signature tag refuse the copy, before anything is sent; the same signature does not."""
+        with registry(documents=self.signed()) as (source, _), target() as (to, other):
+            self.assertEqual(self.copy(source, to)[0], 0)
+            tag = f"{digest_of(MANIFEST).replace(':', '-')}.sig"
+            own = other.documents[f"/v2/copy/manifests/{tag}"]
+            self.assertEqual(self.copy(source, to)[0], 0)
+            other.documents[f"/v2/copy/manifests/{tag}"] = another = own + b" "
+            other.seen.clear()
+            status, _, err = self.copy(source, to)
+            self.assertEqual((status, f"{to}/copy:{tag} is there already, with the digest {digest_of(another)}" in err), (1, True), err)
+            self.assertLessEqual({command for command, _, _ in other.seen}, {"GET", "HEAD"})
+            self.assertEqual(self.copy(source, to, "--replace")[0], 0)
+            self.assertEqual(other.documents[f"/v2/copy/manifests/{tag}"], own)
+
     def test_what_is_refused_leaves_no_tag(self):
-        for way in (lambda at: at.answer(500), lambda at: at.connection.close()):
+        for way in (lambda at: at.answer(500), lambda at: setattr(at, "close_connection", True)):
             with registry(documents=self.signed()) as (source, _), target(**{"PATCH_": way}) as (to, other):
                 status, _, err = self.copy(source, to)
                 self.assertEqual((status, err.count("\n")), (1, 1), err)

@@ -5,6 +5,8 @@ use Rattle.live_host.specs.Wire.{Wire, SendsAndReceives}
 use Rattle.live_admit.specs.Served.{Serves as ReviewsServe}
 use Rattle.live_blobs.specs.Ends.{EndsBy}
 use Rattle.live_blobs.specs.LiveBlobs.{LiveBlobs}
+use Rattle.live_carry.specs.Ends.{CarryEnds}
+use Rattle.live_check.specs.Checked.{Checked, EndsChecked as CheckEnds}
 use Rattle.live_copy.specs.Course.{CopyEnds}
 use Rattle.live_documents.specs.LiveDocuments.{LiveDocuments}
 use Rattle.live_lock.specs.Checked.{EndsChecked, LockChecked}
@@ -22,6 +24,8 @@ Serves (first.Documents settings) s old new = Ends (λ r. LiveDocuments settings
 Serves (first.Lock settings) s old new = EndsChecked (λ held. LockChecked settings held old new) s new
 Serves (first.Blobs settings) s old new = EndsBy (λ r. LiveBlobs settings r old new) s new
 Serves (first.Copy settings) s old new = CopyEnds settings s old new
+Serves (first.Carry settings) s old new = CarryEnds settings s old new
+Serves (first.Check settings) s old new = CheckEnds (λ held. Checked settings held old new) s new
 Serves (first.Admit settings) s old new = ReviewsServe settings.rules settings.reviews s old new
 
 -- a first frame was received, and what it asks for ended with this status

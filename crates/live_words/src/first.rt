@@ -4,6 +4,8 @@ ghost use Rattle.serde_json.specs.View.{view};
 ghost use Rattle.json_tables.specs.Outcomes.{ReadsTo};
 ghost use Rattle.live_admit.specs.Settings.{admit_of};
 ghost use Rattle.live_blobs.specs.Settings.{blobs_of};
+ghost use Rattle.live_carry.specs.Settings.{carry_of};
+ghost use Rattle.live_check.specs.Settings.{check_of};
 ghost use Rattle.live_copy.specs.Settings.{copy_of};
 ghost use Rattle.live_lock.specs.Settings.{lock_settings_of};
 ghost use Rattle.live_pull.specs.Settings.{documents_of, settings_of};
@@ -13,6 +15,8 @@ ghost use Rattle.live_words.specs.declared.first.FirstFrame.TheVariants as first
 use json_tables::ReadError;
 use live_admit::{AdmitSettings, read_admit_settings};
 use live_blobs::{BlobSettings, read_blob_settings};
+use live_carry::{CarrySettings, read_carry_settings};
+use live_check::{CheckSettings, read_check_settings};
 use live_copy::{CopySettings, read_copy_settings};
 use live_lock::{LockSettings, read_lock_settings};
 use live_pull::{LiveSettings, read_document_settings, read_settings};
@@ -32,6 +36,10 @@ pub enum FirstFrame {
     Blobs(BlobSettings),
     /// The frame `copy`: a copy of an image to another registry.
     Copy(CopySettings),
+    /// The frame `carry`: one blob that is carried to another registry.
+    Carry(CarrySettings),
+    /// The frame `check`: an image that the host has.
+    Check(CheckSettings),
     /// The frame `admit`: admission reviews.
     Admit(AdmitSettings),
 }
@@ -76,6 +84,22 @@ fn copy_first(alloc: Global, value: &Value) -> Result<FirstFrame, ReadError>
     Ok(FirstFrame::Copy(settings))
 }
 
+fn carry_first(alloc: Global, value: &Value) -> Result<FirstFrame, ReadError>
+    ensures exact { ReadsTo result (option_map first.Carry (carry_of (view value.now))) }
+    ensures ready { IfOk result IsFirstReady }
+{
+    let settings = read_carry_settings(alloc, value)?;
+    Ok(FirstFrame::Carry(settings))
+}
+
+fn check_first(alloc: Global, value: &Value) -> Result<FirstFrame, ReadError>
+    ensures exact { ReadsTo result (option_map first.Check (check_of (view value.now))) }
+    ensures ready { IfOk result IsFirstReady }
+{
+    let settings = read_check_settings(alloc, value)?;
+    Ok(FirstFrame::Check(settings))
+}
+
 fn admit_first(alloc: Global, value: &Value) -> Result<FirstFrame, ReadError>
     ensures exact { ReadsTo result (option_map first.Admit (admit_of (view value.now))) }
     ensures ready { IfOk result IsFirstReady }
@@ -95,6 +119,8 @@ fn first_named(alloc: Global, name: &str, value: &Value) -> Result<FirstFrame, R
         "lockcheck" => lock_first(alloc, value),
         "blobs" => blobs_first(alloc, value),
         "copy" => copy_first(alloc, value),
+        "carry" => carry_first(alloc, value),
+        "check" => check_first(alloc, value),
         "admit" => admit_first(alloc, value),
         _ => Err(ReadError::Shape),
     }

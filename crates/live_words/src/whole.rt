@@ -12,6 +12,8 @@ use json_tables::ReadError;
 use json_values::Json;
 use live_admit::serve_admit;
 use live_blobs::serve_blobs;
+use live_carry::serve_carry;
+use live_check::serve_check;
 use live_copy::serve_copy;
 use live_documents::serve_documents;
 use live_host::{Streams, begin_head, hear, tell};
@@ -67,6 +69,8 @@ fn serve_first<S: Source, K: Sink>(
         FirstFrame::Lock(settings) => serve_lock(alloc, streams, settings),
         FirstFrame::Blobs(settings) => serve_blobs(alloc, streams, settings),
         FirstFrame::Copy(settings) => serve_copy(alloc, streams, settings),
+        FirstFrame::Carry(settings) => serve_carry(alloc, streams, settings),
+        FirstFrame::Check(settings) => serve_check(alloc, streams, settings),
         FirstFrame::Admit(settings) => serve_admit(alloc, streams, settings),
     }
 }
@@ -78,8 +82,7 @@ fn end_with<S, K>(status: Status, streams: Streams<S, K>) -> Ended<S, K>
 }
 
 /// Does what a host asks for, which opens the connections, verifies signatures and supplies the time: receives the first
-/// frame, pulls an image or its documents alone, or checks a lock file, and sends the result. Returns the exit status
-/// and the streams.
+/// frame, does what it asks for, and sends the result. Returns the exit status and the streams.
 pub fn run<S: Source, K: Sink>(alloc: Global, streams: Streams<S, K>) -> Ended<S, K>
     ensures status { CoreMeans result.status
         (wire S.state K.state streams) (wire S.state K.state result.streams) }

@@ -1,0 +1,10 @@
+pub mod Carrying
+pub mod Delivery
+pub mod Ends
+pub mod Heads
+pub mod Held
+pub mod HeldState
+pub mod LastStood
+pub mod Opening
+pub mod Settings
+pub mod Steps
