@@ -3,6 +3,8 @@
 
     pulls.py [PART OF A NAME ..]
 """
+import contextlib
+import os
 import random
 import shutil
 import statistics
@@ -23,6 +25,8 @@ MIB, ROUNDS = 1 << 20, 5
 # of an image: its layers in MiB, and the greatest ratio that is wanted
 IMAGES = {"one of 256": ([256], 1.5), "four of 64": ([64] * 4, 1.25), "sixteen of 16": ([16] * 16, 1.25), "eight of 128": ([128] * 8, 1.15), "200 of 1": ([1] * 200, 1.0)}
 MOST = 128  # MiB
+# so that Python does not compile the command each time, as it does not once it is installed
+ENVIRONMENT = {name: value for name, value in os.environ.items() if name != "PYTHONDONTWRITEBYTECODE"}
 
 
 def stored(chance, size):
@@ -32,26 +36,30 @@ def stored(chance, size):
 
 
 def held(process):
-    """The memory of a process and its children, in MiB."""
+    """The memory of a process and its children, in MiB: of a page that some of them share each holds its part."""
     folder = Path(f"/proc/{process}")
     children = [child for path in folder.glob("task/*/children") for child in path.read_text().split()]
-    fields = dict(line.split(":", 1) for line in (folder / "status").read_text().splitlines())
-    return int(fields.get("VmRSS", "0").split()[0]) / 1024 + sum(held(child) for child in children)
+    shares = dict(line.split(":", 1) for line in (folder / "smaps_rollup").read_text().splitlines()[1:])
+    return int(shares["Pss"].split()[0]) / 1024 + sum(held(child) for child in children)
 
 
-def timed(words, environment=None):
-    """The seconds of a run, and the most memory of all of its processes together."""
-    began, most = time.monotonic(), 0.0
-    run = subprocess.Popen([str(word) for word in words], stdout=subprocess.DEVNULL, env=environment)
+def timed(*words):
+    """The seconds of a run."""
+    began = time.monotonic()
+    subprocess.run(words, stdout=subprocess.DEVNULL, env=ENVIRONMENT, check=True)
+    return time.monotonic() - began
+
+
+def most_held(*words):
+    """The most memory of all processes of a run together."""
+    most, run = 0.0, subprocess.Popen(words, stdout=subprocess.DEVNULL, env=ENVIRONMENT)
     while run.poll() is None:
-        try:
+        with contextlib.suppress(OSError, LookupError, ValueError):
             most = max(most, held(run.pid))
-        except (OSError, KeyError, ValueError):
-            pass
         time.sleep(0.02)
     if run.returncode:
         raise SystemExit(f"{words[0]} ended with {run.returncode}")
-    return time.monotonic() - began, most
+    return most
 
 
 def measured(folder, name, sizes):
@@ -62,11 +70,12 @@ def measured(folder, name, sizes):
         named = make_layout(folder / "image", [stored(chance, size * MIB) for size in sizes])
         ran("skopeo", "copy", "--quiet", "--preserve-digests", "--dest-tls-verify=false", f"oci:{folder / 'image'}", f"docker://{registry.place}/image:v1")
         sign(registry.place, "image", named["digest"], key)
-        ratios, most = [], 0.0
+        pull, ratios = [TOP / "bin/roksnaep", "pull", f"{registry.place}/image:v1", "--key", public, "--out"], []
+        most = most_held(*pull, folder / "first")
         for _ in range(ROUNDS):
-            ours, memory = timed([TOP / "bin/roksnaep", "pull", f"{registry.place}/image:v1", "--key", public, "--out", folder / "ours"])
-            theirs, _ = timed(["skopeo", "copy", "--quiet", "--src-tls-verify=false", f"docker://{registry.place}/image:v1", f"oci:{folder / 'theirs'}"])
-            ratios, most = [*ratios, ours / theirs], max(most, memory)
+            ours = timed(*pull, folder / "ours")
+            theirs = timed("skopeo", "copy", "--quiet", "--src-tls-verify=false", f"docker://{registry.place}/image:v1", f"oci:{folder / 'theirs'}")
+            ratios.append(ours / theirs)
             for made in ("ours", "theirs"):
                 shutil.rmtree(folder / made)
         return statistics.median(ratios), most

@@ -1,21 +1,30 @@
 """The blobs of a manifest that was decided: checked by cores side by side, each over a range of them, and written as they come."""
+import contextlib
 import json
-import queue
+import os
 import re
-import threading
 import time
 from pathlib import Path
-from typing import Any, BinaryIO, Callable, Iterable
+from typing import Any, BinaryIO, Callable, Generic, Iterable, NamedTuple, TypeVar
 from urllib.parse import urlsplit
 
-from host.conversation import BLOB, Registry
+from host.beside import side_by_side
+from host.conversation import BLOB, Answered, Registry
 from host.core import PIECE, WRITTEN, Core, Frame, framed
 from host.layout import Layout
-from host.network import uninterrupted
 
-CORES, PARTS, TRIES = 4, 16, 5  # side by side; ranges of about the same size; cores for a blob, one after another
+PARTS, TRIES, FRESH = 16, 5, 8 << 20  # ranges of about the same size; cores for a blob, one after another; bytes that wait for the disk
+Source = TypeVar("Source", bound=Registry)
 PARTIAL = re.compile(r"bytes (\d+)-\d+/(\d+|\*)")  # RFC 9110, 14.4
-Refused = tuple[Frame, Registry]  # the last frame of a core, and who was asked
+
+
+class Asked(NamedTuple):
+    """What a registry answered in another process: by URLs, and why it failed last."""
+    statuses: dict[str, int]
+    failure: str
+
+
+Refused = tuple[Frame, Answered]  # the last frame of a core, and who was asked
 
 
 def parsed(content: bytes) -> dict[str, Any]:
@@ -55,6 +64,7 @@ class Received:
         self.file: BinaryIO | None = None  # where the next ones go
         self.is_whole = self.has_grown = self.is_resumed = self.is_renewed = False
         self.path, self.left, self.skip, self.data = Path(), 0, 0, b""  # bytes to be read on disk, and to be skipped of the answer
+        self.fresh = 0  # bytes that the disk has not begun to write
 
     def reply(self, frame: Frame, body: Iterable[bytes]) -> tuple[Frame, bytes]:
         if frame["frame"] == "request":
@@ -72,15 +82,27 @@ class Received:
 
     def proceed(self) -> None:
         """Writes what the core has, and receives ahead while it hashes."""
-        if self.file and self.data:
+        self.has_grown = self.has_grown or len(self.data) > 0
+        if self.file:
             self.file.write(self.data)
-            self.has_grown = True
+            self.fresh += len(self.data)
+            if self.fresh >= FRESH:
+                self.settle(self.file)
         self.data = b""
         if not self.is_whole:
             self.registry.ahead()
 
+    def settle(self, file: BinaryIO) -> None:
+        """Has the disk begin to write what it has not begun to, so that the end does not wait for all of it."""
+        file.flush()
+        with contextlib.suppress(OSError):  # of a disk that takes no advice
+            os.posix_fadvise(file.fileno(), file.tell() - self.fresh, self.fresh, os.POSIX_FADV_DONTNEED)
+        self.fresh = 0
+
     def leave(self) -> None:
         """Ends the last body, whose bytes stay in their file."""
+        if self.file and self.fresh:
+            self.settle(self.file)
         for file in filter(None, (self.disk, self.file)):
             file.close()
         self.disk = self.file = None
@@ -129,77 +151,79 @@ class Received:
         return self.is_renewed and not was_renewed or "TransportFault" in report and self.has_grown
 
 
-class Blobs:
+class Ranges(Generic[Source]):
+    """Ranges of a manifest's blobs, for cores side by side, each with a process that replies to it: `checked` says how one ended over a range."""
+
+    def __init__(self, manifest: dict[str, Any], registry: Callable[[], Source]) -> None:
+        self.registry = registry
+        self.blobs = [manifest["config"], *manifest["layers"]]
+
+    def run(self) -> Refused | None:
+        """Nothing if each blob stood. However it ends, no core and no process is left."""
+        spans = ranges([max(0, blob["size"]) for blob in self.blobs])
+        try:
+            with contextlib.closing(side_by_side(spans, self.begin)) as ends:
+                for span, (stood, refused) in ends:
+                    self.keep(span, stood)
+                    if refused:
+                        return refused
+        except EOFError:  # it was killed
+            return {"frame": "ended", "status": 4}, Asked({}, "")
+        return None
+
+    def begin(self) -> Callable[[range], tuple[list[str], Refused | None]]:
+        """In a process: connections of its own, and how ranges are checked with them."""
+        registry = self.registry()
+        return lambda span: self.checked(span, registry)
+
+    def keep(self, span: range, stood: list[str]) -> None:
+        """Takes the blobs of a range that stood."""
+
+    def checked(self, span: range, registry: Source) -> tuple[list[str], Refused | None]:
+        """In a process: the digests of the blobs of the range that stood, and why the next one is refused if it is."""
+        raise NotImplementedError
+
+
+class Blobs(Ranges[Registry]):
     """The blobs of a manifest, for cores whose first frame is `word` with a range."""
 
     def __init__(self, word: Frame, registry: Callable[[], Registry], layout: Layout | None = None) -> None:
-        self.word, self.registry, self.layout = word, registry, layout
-        self.blobs = [word["manifest"]["config"], *word["manifest"]["layers"]]
+        super().__init__(word["manifest"], registry)
+        self.word, self.layout = word, layout
         self.sizes = {blob["digest"]: max(0, blob["size"]) for blob in self.blobs}
-        self.waiting = iter(spans := ranges([max(0, blob["size"]) for blob in self.blobs]))
-        self.threads = [threading.Thread(target=self.work, daemon=True) for _ in spans[:CORES]]
-        self.cores, self.registries, self.is_over = set[Core](), list[Registry](), False
-        self.ended = queue.SimpleQueue[Refused | BaseException | None]()
 
-    def run(self) -> Refused | None:
-        """Nothing if each blob stood. However it ends, no core and no thread is left."""
-        try:
-            with uninterrupted():  # so that signals are for the thread that waits
-                for thread in self.threads:
-                    thread.start()
-            for _ in self.threads:
-                outcome = self.ended.get()
-                if isinstance(outcome, BaseException):
-                    raise outcome
-                if outcome:
-                    return outcome
-            return None
-        finally:
-            self.is_over = True
-            for registry in self.registries:
-                registry.close()
-            for core in [*self.cores]:
-                core.process.kill()
-            for thread in self.threads:
-                thread.join(5)
+    def keep(self, span: range, stood: list[str]) -> None:
+        if self.layout:
+            self.layout.keep(stood, str(span.start))
 
-    def work(self) -> None:
-        """One of the threads: range after range, until one is refused."""
-        outcome: Refused | BaseException | None = None
-        try:
-            self.registries.append(registry := self.registry())
-            while not (outcome or self.is_over) and (span := next(self.waiting, None)):
-                outcome = self.checked(span, registry)
-        except BaseException as error:  # which is raised where it is waited for
-            outcome = error
-        self.ended.put(outcome)
-
-    def checked(self, span: range, registry: Registry) -> Refused | None:
-        received, first, tries = Received(registry, self.layout, self.sizes, str(span.start)), span.start, TRIES
-        while first < span.stop and not self.is_over:
-            end, stood = self.asked(range(first, span.stop), received)
-            if self.layout:
-                for digest in stood:
-                    self.layout.keep(digest, str(span.start))
+    def checked(self, span: range, registry: Registry) -> tuple[list[str], Refused | None]:
+        received, found, tries = Received(registry, self.layout, self.sizes, str(span.start)), list[str](), TRIES
+        while len(found) < len(span):
+            end, stood = self.asked(span[len(found):], received)
             if stood:
-                first, tries, received.is_renewed = first + len(stood), TRIES, False
+                found, tries, received.is_renewed = found + stood, TRIES, False
             if end["frame"] == "refused" and tries > 1 and received.may_go_on(end["report"]):
                 tries -= 1
-            elif end["frame"] == "refused" or end["status"] or first < span.stop:
-                return end, registry
-        return None
+            elif end["frame"] == "refused" or end["status"] or len(found) < len(span):
+                return found, (end, Asked(registry.statuses, registry.failure))
+        return found, None
+
+    def first_frame(self, span: range) -> Frame:
+        """The first frame of a core: the manifest has no more layers than those of its range, since a core reads a line slowly."""
+        first, manifest = min(span.start, 1), self.word["manifest"]
+        layers = manifest["layers"][max(0, span.start - 1):max(1, span.stop - 1)]
+        return self.word | {"settings": self.word["settings"] | {"moment": int(time.time())}, "manifest": manifest | {"layers": layers},
+                            "first": first, "end": first + len(span)}
 
     def asked(self, span: range, received: Received) -> tuple[Frame, list[str]]:
         """How a core ended over a range, and the digests of the blobs that stood, in order."""
-        core, stood, received.has_grown = Core(), list[str](), False
-        self.cores.add(core)
+        core, stood, received.has_grown = Core(False), list[str](), False
         try:
-            while (frame := core.read())["frame"] != "refused" and not self.is_over:
+            while (frame := core.read())["frame"] != "refused":
                 body = core.body(frame)
                 match frame["frame"]:
                     case "begin":
-                        settings = self.word["settings"] | {"moment": int(time.time())}
-                        core.write(self.word | {"settings": settings, "first": span.start, "end": span.stop})
+                        core.write(self.first_frame(span))
                     case "request" | "more":
                         core.write(*received.reply(frame, body))
                         received.proceed()
@@ -215,4 +239,3 @@ class Blobs:
         finally:
             received.leave()
             core.close()
-            self.cores.discard(core)

@@ -13,12 +13,8 @@ BLOB, RECORDED = re.compile(r"/v2/.+/blobs/(sha\d+:[0-9a-f]+)"), 64 << 20
 Sent = list[tuple[Frame, bytes]]  # frames, each with its bytes
 
 
-class Registry(Protocol):
-    """What answers requests: the network, a layout, or both."""
-    blob: str
-
-    @property
-    def base(self) -> str: ...
+class Answered(Protocol):
+    """How requests were answered: the last status of each URL, and why one failed last."""
 
     @property
     def statuses(self) -> dict[str, int]: ...
@@ -26,13 +22,19 @@ class Registry(Protocol):
     @property
     def failure(self) -> str: ...
 
+
+class Registry(Answered, Protocol):
+    """What answers requests: the network, a layout, or both."""
+    blob: str
+
+    @property
+    def base(self) -> str: ...
+
     def reply(self, frame: Frame, body: Iterable[bytes] = ()) -> tuple[Frame, bytes]: ...
 
     def ahead(self) -> None: ...
 
     def turn(self, side: str) -> None: ...
-
-    def close(self) -> None: ...
 
 
 class Exchanges:

@@ -22,12 +22,12 @@ def framed(piece: bytes) -> tuple[Frame, bytes]:
 class Core:
     """A core that runs. A body is handed on in pieces, so that none is ever held whole."""
 
-    def __init__(self) -> None:
+    def __init__(self, alone: bool = True) -> None:
         (path, which), pipe = program("roksnaep-core"), subprocess.PIPE
         if not os.access(path, os.X_OK):
             raise ValueError(f"{path} is not a program ({which}); make core builds one, and ROKSNAEP_CORE can name one")
-        # in a session of its own, so that Ctrl-C reaches the command alone
-        self.process = subprocess.Popen([path], stdin=pipe, stdout=pipe, stderr=subprocess.DEVNULL, start_new_session=True)
+        # alone: in a session of its own, so that Ctrl-C reaches the command and not its core
+        self.process = subprocess.Popen([path], stdin=pipe, stdout=pipe, stderr=subprocess.DEVNULL, start_new_session=alone)
         assert self.process.stdin and self.process.stdout
         self.input, self.output = self.process.stdin, self.process.stdout
         for stream in (self.input, self.output):

@@ -1,7 +1,6 @@
 """Connections, by libcurl: requests that the rules allow are sent, and answers received piece by piece. No redirects, cookies or .netrc."""
 import base64
 import contextlib
-import email.utils
 import json
 import math
 import re
@@ -16,7 +15,7 @@ from host.core import PIECE, Frame, framed
 from host.places import FIELD, URL, Access, Place, is_public, place_of, shown
 from host.terminal import progress
 
-SLOWEST = 1000  # bytes per second
+SLOWEST, RECEIVED = 1000, 256 << 10  # bytes: per second, and at once from a connection
 FIELDS, TRIES, LONGEST_WAIT = 1000, 5, 60  # header fields, requests to a busy registry, seconds between them
 REMEMBERED, HELD = 60, 8 << 20  # seconds for which an answer of `/v2/` or a token holds; bytes of a request's body that can be sent again
 REALM = re.compile(r'\brealm *= *"?(https?://[^?",\s]+)', re.IGNORECASE)
@@ -39,13 +38,18 @@ def uninterrupted() -> Iterator[None]:
 
 
 class Answer:
-    """What has been received of an answer: the fields of its head, and at most a piece of its body that is not handed on yet."""
+    """What has been received of an answer: the fields of its head, and of its body what is not handed on yet, at most as much as there is room for."""
 
-    def __init__(self, limit: int) -> None:
+    def __init__(self, limit: int, room: bytearray = bytearray()) -> None:
         self.limit, self.size = limit, 0  # in bytes, of all heads and trailers
-        self.status, self.fields, self.body = 0, list[tuple[str, bytes]](), bytearray()
+        self.room, self.held = memoryview(room), 0
+        self.status, self.fields = 0, list[tuple[str, bytes]]()
         self.has_head = self.is_full = self.is_over = False
         self.raised: Exception | None = None
+
+    @property
+    def body(self) -> memoryview:
+        return self.room[:self.held]
 
     def guarded(self, callback: Callable[..., Any]) -> Callable[..., Any]:
         """The callback for libcurl, which would drop an exception."""
@@ -78,17 +82,19 @@ class Answer:
                 self.fields.append((name, value))
 
     def take_body(self, data: bytes) -> int | None:
-        """Takes a part of the body; libcurl keeps it if the piece is full."""
-        self.is_full = len(self.body) + len(data) > PIECE
-        if self.is_full:
+        """Takes a part of the body; libcurl keeps it if there is no room. It has at most 16 KiB, so that this is called often."""
+        held = self.held + len(data)
+        if held > PIECE:
+            self.is_full = True
             return pycurl.WRITEFUNC_PAUSE
-        self.body += data
+        self.room[self.held:held] = data
+        self.held = held
         return None
 
     def again(self) -> "Answer":
         """The same, to be handed on once more."""
-        made = Answer(self.limit)
-        made.status, made.fields, made.body, made.has_head, made.is_over = self.status, self.fields, self.body[:], True, True
+        made = Answer(self.limit, bytearray(self.body))
+        made.status, made.fields, made.held, made.has_head, made.is_over = self.status, self.fields, self.held, True, True
         return made
 
     def challenges(self) -> bytes:
@@ -106,8 +112,9 @@ class Answer:
         """How many seconds a busy registry asks to wait (RFC 9110, 10.2.3); infinity if it does not."""
         text = dict(self.fields).get("retry-after", b"").decode("latin-1")
         with contextlib.suppress(ValueError, OverflowError):
-            if self.status in (429, 503):
-                return max(0, int(text) if text.isdecimal() else email.utils.parsedate_to_datetime(text).timestamp() - time.time())
+            if self.status in (429, 503) and text:
+                from email.utils import parsedate_to_datetime  # which takes a while
+                return max(0, int(text) if text.isdecimal() else parsedate_to_datetime(text).timestamp() - time.time())
         return math.inf
 
 
@@ -116,7 +123,7 @@ class Upload:
 
     def __init__(self, size: int, pieces: Iterable[bytes]) -> None:
         self.size, self.raised, self.left = size, False, memoryview(b"")
-        self.held = [b"".join(pieces)] if size <= HELD else []
+        self.held = [*pieces] if size <= HELD else []
         self.pieces = iter(self.held or pieces)
 
     def again(self) -> bool:
@@ -150,7 +157,7 @@ class Remembered:
     def keep(self, key: tuple[str, ...], answer: Answer, is_token: bool) -> None:
         """Keeps an answer that has arrived whole. Without `expires_in` a token lives for a minute."""
         with contextlib.suppress(ValueError, TypeError, AttributeError):
-            life = json.loads(answer.body).get("expires_in", REMEMBERED) if is_token else REMEMBERED
+            life = json.loads(bytes(answer.body)).get("expires_in", REMEMBERED) if is_token else REMEMBERED
             self.answers[key] = time.monotonic() + min(REMEMBERED, life), answer.again()
 
 
@@ -166,7 +173,7 @@ class Network:
         self.timeout, self.end, self.document, self.headers = timeout, end, document, headers
         self.statuses, self.failure, self.url, self.realms = dict[str, int](), "", "", set[Place]()
         self.remembered, self.late = Remembered(), ""
-        self.multi, self.answer = pycurl.CurlMulti(), Answer(0)
+        self.multi, self.answer, self.room = pycurl.CurlMulti(), Answer(0), bytearray(PIECE)
         self.curl: pycurl.Curl | None = None
         for path in filter(None, (access.authority, access.certificate, access.private_key)):
             path.read_bytes()  # so that a file that is missing is refused before any request
@@ -178,10 +185,6 @@ class Network:
         return made
 
     def turn(self, side: str) -> None: ...
-
-    def close(self) -> None:
-        """Lets what is under way in another thread end soon."""
-        self.end = -math.inf
 
     def options(self, frame: Frame, place: Place, answer: Answer, upload: Upload | None) -> dict[int, Any]:
         """The options of libcurl for a request."""
@@ -202,8 +205,8 @@ class Network:
             pycurl.CUSTOMREQUEST: frame["method"], pycurl.NOBODY: frame["method"] == "HEAD",
             pycurl.HTTPHEADER: ["Accept:", "Expect:", *headers], pycurl.USERAGENT: "",
             pycurl.HTTP_VERSION: pycurl.CURL_HTTP_VERSION_1_1, pycurl.SSLVERSION: pycurl.SSLVERSION_TLSv1_2,
-            pycurl.HEADERFUNCTION: answer.guarded(answer.take_line), pycurl.WRITEFUNCTION: answer.guarded(answer.take_body),
-            pycurl.OPENSOCKETFUNCTION: answer.guarded(connect), pycurl.BUFFERSIZE: PIECE // 2, pycurl.NOSIGNAL: 1,
+            pycurl.HEADERFUNCTION: answer.guarded(answer.take_line), pycurl.WRITEFUNCTION: answer.take_body,
+            pycurl.OPENSOCKETFUNCTION: answer.guarded(connect), pycurl.BUFFERSIZE: RECEIVED, pycurl.NOSIGNAL: 1,
             pycurl.PROXY: proxy, pycurl.NOPROXY: "", SUPPRESS_CONNECT_HEADERS: 1,
             pycurl.CONNECTTIMEOUT_MS: int(self.timeout * 1000),
             pycurl.LOW_SPEED_LIMIT: SLOWEST, pycurl.LOW_SPEED_TIME: round(self.timeout) or 1,
@@ -212,7 +215,7 @@ class Network:
     def ask(self, frame: Frame, place: Place, again: bool, upload: Upload | None = None) -> None:
         """Sends a request, and receives what comes first of its answer; `again` if the connection fails before it."""
         self.leave()
-        self.curl, self.answer = pycurl.Curl(), Answer(self.headers)
+        self.curl, self.answer = pycurl.Curl(), Answer(self.headers, self.room)
         for option, value in self.options(frame, place, self.answer, upload).items():
             self.curl.setopt(option, value)
         self.multi.add_handle(self.curl)
@@ -224,10 +227,10 @@ class Network:
             self.ask(frame, place, False)
 
     def receive(self) -> None:
-        """Lets libcurl work until a piece of the body is full, or the answer is over: a short one is whole then, and its connection is kept."""
+        """Lets libcurl work until it may have no room for more, or the answer is over: a short one is whole then, and its connection is kept."""
         answer = self.answer
-        while not (answer.is_full or answer.is_over):
-            before = answer.size + len(answer.body)
+        while not (answer.is_full or answer.is_over or answer.held > PIECE - RECEIVED):
+            before = answer.size + answer.held
             with uninterrupted():
                 self.multi.perform()
             _, done, failed = self.multi.info_read()
@@ -241,7 +244,7 @@ class Network:
                 raise OSError("the head of the answer was truncated")
             if time.monotonic() > self.end:
                 raise TimeoutError("the time of the command is over")
-            if not done and answer.size + len(answer.body) == before and self.multi.select(0.05) < 0:
+            if not done and answer.size + answer.held == before and self.multi.select(0.05) < 0:
                 time.sleep(0.002)  # no socket yet: the name is being resolved
 
     def wait(self, seconds: float) -> None:
@@ -295,26 +298,27 @@ class Network:
 
     def ahead(self) -> None:
         """Receives the next piece of a body before it is asked for."""
-        if self.curl and not self.answer.body and not self.late:
+        if self.curl and not self.answer.held and not self.late:
             try:
                 self.resume(self.curl)
             except (OSError, ValueError, pycurl.error) as error:
                 self.late = str(error.args[-1])
 
     def resume(self, curl: pycurl.Curl) -> None:
-        if self.answer.is_full and not self.answer.body:
+        if self.answer.is_full and not self.answer.held:
+            self.answer.is_full = False
             with uninterrupted():
                 curl.pause(pycurl.PAUSE_CONT)
         self.receive()
 
     def more(self) -> tuple[Frame, bytes]:
-        """The next piece of the body; all but the last are full."""
+        """The next piece of the body, which is to be used before the one after it is asked for."""
         if self.late or not (self.curl or self.answer.is_over):
             raise ValueError(self.late or "the answer was truncated")
         if self.curl:
             self.resume(self.curl)
-        piece = bytes(self.answer.body)
-        self.answer.body.clear()
+        piece = self.answer.body
+        self.answer.held = 0
         self.size += len(piece)
         may_be_long = self.blob and self.answer.status in (200, 206) and not self.is_token
         if self.size > self.document and not may_be_long:

@@ -45,14 +45,22 @@ def large_image(live, name, sizes):
     return named, layers
 
 
+def children(process):
+    return [int(child) for path in Path(f"/proc/{process}").glob("task/*/children") for child in path.read_text().split()]
+
+
+def runs(process):
+    """Whether it is there, and has not ended (then it waits for its parent)."""
+    path = Path(f"/proc/{process}/stat")
+    return path.exists() and path.read_text().rpartition(")")[2].split()[0] != "Z"
+
+
 def memory(process):
-    """What a process and its children hold together, in MiB."""
-    folder = Path(f"/proc/{process}")
+    """What a process and its children hold together, in MiB: of a page that some of them share each holds its part."""
     try:
-        children = [child for path in folder.glob("task/*/children") for child in path.read_text().split()]
-        fields = dict(line.split(":", 1) for line in (folder / "status").read_text().splitlines())
-        return int(fields.get("VmRSS", "0").split()[0]) / 1024 + sum(map(memory, children))
-    except (OSError, ValueError):
+        shares = dict(line.split(":", 1) for line in Path(f"/proc/{process}/smaps_rollup").read_text().splitlines()[1:])
+        return int(shares["Pss"].split()[0]) / 1024 + sum(map(memory, children(process)))
+    except (OSError, LookupError, ValueError):
         return 0
 
 
@@ -165,21 +173,40 @@ def goes_on_after_a_401(live):
     return told
 
 
-def tells_that_a_core_was_killed(live):
-    """One of the cores is killed while it waits for its blob."""
-    layers_like(live, "killed")
-    out = live.folder / "killed-out/image"
-    with door({"/blobs/": lambda at: time.sleep(20) if at.path.endswith(digest_of(layers_of("killed", [3000, 300_000, 5_000_000])[2])) else at.hand_on()}, live.place) as place:
-        words = [COMMAND, "pull", f"{place}/killed:v1", "--key", live.public, "--out", out]
+def stalled(live, way):
+    """A pull whose largest blob does not come, and what becomes of it after a way of ending it; its processes and cores are gone then."""
+    layers, out = layers_like(live, "stalled"), live.folder / "stalled-out/image"
+    with door({"/blobs/": lambda at: time.sleep(9) if at.path.endswith(digest_of(layers[2])) else at.hand_on()}, live.place) as place:
+        words = [COMMAND, "pull", f"{place}/stalled:v1", "--key", live.public, "--out", out]
         with subprocess.Popen(words, env=live.environment, stderr=subprocess.PIPE, text=True) as run:
-            time.sleep(4)
-            for path in Path(f"/proc/{run.pid}").glob("task/*/children"):
-                for child in path.read_text().split():
-                    os.kill(int(child), signal.SIGKILL)
+            until = time.monotonic() + 30
+            while time.monotonic() < until and not (cores := [core for process in children(run.pid) for core in children(process)]):
+                time.sleep(0.05)
+            time.sleep(1)
+            processes, cores = children(run.pid), [core for process in children(run.pid) for core in children(process)]
+            way(run.pid, processes, cores)
             err = run.communicate(timeout=30)[1]
-    assert (run.returncode, out.parent.exists()) == (4, False) and "the core ended unexpectedly" in err, (run.returncode, err)
+    time.sleep(0.5)
+    assert cores and not any(map(runs, processes + cores)), (processes, cores)
+    return run.returncode, err, out.parent
+
+
+def tells_that_a_core_was_killed(live):
+    """One of the cores, or a process that receives for it, is killed while it waits for its blob."""
+    for killed in (lambda _, processes, cores: cores, lambda _, processes, cores: processes):
+        status, err, folder = stalled(live, lambda *found, killed=killed: [os.kill(process, signal.SIGKILL) for process in killed(*found)])
+        assert (status, folder.exists(), err.count("\n")) == (4, False, 1) and "the core ended unexpectedly" in err, (status, err)
     return err
 
 
-CASES = [goes_on_where_a_blob_broke_off, refuses_layers_of_another_size, goes_on_after_a_401, tells_that_a_core_was_killed, pulls_200_layers, pulls_a_gibibyte_in_eight_layers,
+def leaves_no_process(live):
+    """Neither after a signal nor after the command was killed: only then its hidden folder is left."""
+    status, err, folder = stalled(live, lambda run, *_: os.kill(run, signal.SIGTERM))
+    assert (status, folder.exists(), "by SIGTERM" in err) == (4, False, True), (status, err)
+    status, err, folder = stalled(live, lambda run, *_: os.kill(run, signal.SIGKILL))
+    assert (status, err, len(os.listdir(folder))) == (-signal.SIGKILL, "", 1), (status, err)
+    return "also its cores are gone"
+
+
+CASES = [goes_on_where_a_blob_broke_off, refuses_layers_of_another_size, goes_on_after_a_401, tells_that_a_core_was_killed, leaves_no_process, pulls_200_layers, pulls_a_gibibyte_in_eight_layers,
          pulls_a_layer_of_two_gibibytes]

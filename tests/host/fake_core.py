@@ -2,7 +2,7 @@
 """A core that believes almost everything: it requests an image and its signature, and hands it on. For tests of the host alone.
 
 FAKE says how it misbehaves: `ends N` exits with a status after the settings, `garbage` writes what is not a frame, `frame JSON` writes this one,
-`blobs N` exits so when it gets a range of blobs, `refused TEXT` refuses with this report, `settings` with a report of the settings, `early` exits with the half of a
+`blobs N`, `check N` and `carry N` exit so when they get such a frame, `refused TEXT` refuses with this report, `settings` with a report of the settings, `early` exits with the half of a
 document written.
 """
 import base64
@@ -185,6 +185,30 @@ class Blobs(Pull):
             write({"frame": "stood", "digests": self.stood})
 
 
+class Check:
+    """An image that the host has: its signature, and the bytes of the blobs of a range."""
+
+    def __init__(self, given):
+        self.given, self.entry = given, given["entry"]
+        manifest = json.loads(self.entry["manifest"])
+        self.range = [manifest["config"], *manifest["layers"]][given["first"]:given["end"]]
+
+    def stands(self, blob):
+        content = b""
+        write({"frame": "want", "digest": blob["digest"]})
+        while (part := answered({"frame": "more"}))[0]["frame"] == "piece":
+            content += part[1]
+        return part[0]["frame"] == "end" and len(content) == blob["size"] and "sha256:" + hashlib.sha256(content).hexdigest() == blob["digest"]
+
+    def run(self):
+        signed = any(Lock.signed(self, key, self.entry["signature"]) for key in self.given["settings"]["keys"])
+        fallen = next((blob["digest"] for blob in self.range if not self.stands(blob)), "") if signed else ""
+        verdict = {"verdict": "blob", "digest": fallen} if fallen else {"verdict": "holds" if signed else "documents"}
+        write({"frame": "checked"} | verdict)
+        if verdict["verdict"] != "holds":
+            sys.exit(1)
+
+
 class Target:
     """Where a copy goes."""
 
@@ -225,6 +249,12 @@ class Target:
     def has(self, digest):
         return self.ask("HEAD", f"{self.base}/blobs/{digest}") is not None
 
+    def refuse_other(self, name, digest):
+        """Refuses a copy if a tag is there with another digest."""
+        found = (self.ask("HEAD", f"{self.base}/manifests/{name}") or {}).get("docker-content-digest", digest)
+        if found != digest:
+            raise Refused(f'refused Taken "{self.base.partition("/v2/")[0].partition("://")[2]}/{self.repository}:{name}" "{found}"\n')
+
     def location(self, headers):
         return headers["location"] if "://" in headers["location"] else self.origin + headers["location"]
 
@@ -244,6 +274,25 @@ class Target:
         return "sha256:" + hashlib.sha256(content).hexdigest()
 
 
+class Carry:
+    """One blob of an image: pulled, checked and pushed if the target does not have it."""
+
+    def __init__(self, given):
+        self.source, self.target = Blobs(given | {"first": given["index"], "end": given["index"] + 1}), Target(given["target"])
+        self.blob = self.source.range[0]
+
+    def run(self):
+        write({"frame": "side", "side": "target"})
+        is_there = self.target.has(self.blob["digest"])
+        if not is_there:
+            write({"frame": "side", "side": "source"})
+            self.source.authorize()
+            content = self.source.sized(self.blob)
+            write({"frame": "side", "side": "target"})
+            self.target.push(content)
+        write({"frame": "carried", "digest": self.blob["digest"], "state": "there" if is_there else "pushed"})
+
+
 class Copy:
     """A copy of an image with its signature, whose blobs the host has carried."""
 
@@ -261,6 +310,11 @@ class Copy:
         self.target.tag = self.target.tag or "latest"
         write({"frame": "pulled", "digest": first[0]["digest"], "manifest": manifest[0]["digest"], "signature": layer["digest"]})
         write({"frame": "side", "side": "target"})
+        name, signature = self.signature(first, layer, payload)
+        if self.given["tag"] and not self.given["replace"]:
+            self.target.refuse_other(self.target.tag, first[0]["digest"])
+            if layer["kind"] == "payload":
+                self.target.refuse_other(name, "sha256:" + hashlib.sha256(signature).hexdigest())
         assert answered({"frame": "carry"})[0] == {"frame": "carried"}
         named = json.loads(manifest[1])
         for digest in dict.fromkeys(blob["digest"] for blob in (*named["layers"], named["config"])):
@@ -270,17 +324,17 @@ class Copy:
         if first is not manifest or not self.given["tag"]:
             pushed.append(self.target.put(manifest[0]["digest"], manifest[1], manifest[0]["media_type"]))
         if self.given["tag"]:
-            pushed += [self.target.push(payload), self.target.push(b"{}"), self.target.put(self.target.tag, first[1], first[0]["media_type"]), self.sign(first, layer, payload)]
+            pushed += [self.target.push(payload), self.target.push(b"{}"), self.target.put(self.target.tag, first[1], first[0]["media_type"]), self.target.put(name, signature, OCI)]
         write({"frame": "copied", "url": f"{self.target.base}/manifests/{first[0]['digest']}", "pushed": pushed})
 
-    def sign(self, first, layer, payload):
+    def signature(self, first, layer, payload):
+        """Where the manifest of the signature is pushed, and its text."""
         digest, is_bundle, kind = first[0]["digest"], layer["kind"] == "bundle", "application/vnd.dev.sigstore.bundle.v0.3+json"
         more = {"artifactType": kind, "subject": {"mediaType": first[0]["media_type"], "digest": digest, "size": len(first[1])}} if is_bundle else {}
         content = json.dumps({"schemaVersion": 2, "mediaType": OCI, "layers": [
             {"mediaType": kind if is_bundle else "application/vnd.dev.cosign.simplesigning.v1+json", "digest": layer["digest"], "size": len(payload), "annotations": layer["annotations"]}],
             "config": {"mediaType": "application/vnd.oci.image.config.v1+json", "digest": "sha256:" + hashlib.sha256(b"{}").hexdigest(), "size": 2}} | more).encode()
-        name = "sha256:" + hashlib.sha256(content).hexdigest() if is_bundle else digest.replace(":", "-") + ".sig"
-        return self.target.put(name, content, OCI)
+        return "sha256:" + hashlib.sha256(content).hexdigest() if is_bundle else digest.replace(":", "-") + ".sig", content
 
 
 class Lock:
@@ -302,7 +356,7 @@ class Lock:
 
 def words():
     """By the first frame."""
-    return {"settings": Pull, "documents": Pull, "blobs": Blobs, "copy": Copy, "lockcheck": Lock}
+    return {"settings": Pull, "documents": Pull, "blobs": Blobs, "carry": Carry, "copy": Copy, "lockcheck": Lock, "check": Check}
 
 
 class Reviews:
@@ -357,7 +411,7 @@ def main():
     word, _, rest = os.environ.get("FAKE", "").partition(" ")
     if word == "ends":
         return int(rest)
-    if word == settings["frame"] == "blobs":
+    if word == settings["frame"] and word in ("blobs", "carry", "check"):
         return int(rest)
     if word == "garbage":
         OUTPUT.write(b"this is not a frame\n")

@@ -469,7 +469,7 @@ class Again(unittest.TestCase):
             network.reply({"frame": "request", "method": "GET", "url": f"http://{server.place}{LAYER}", "headers": []})
             while (got := network.reply({"frame": "more"}))[0]["frame"] == "piece":
                 held = max(held, len(network.answer.body) + len(got[1]))
-                pieces.append(got[1])
+                pieces.append(bytes(got[1]))
                 time.sleep(0.02 if len(pieces) != 10 else 3.5)  # the time that the core takes does not count
             self.assertEqual((got[0]["frame"], b"".join(pieces) == content), ("end", True))
             self.assertLessEqual(held, PIECE)
