@@ -13,7 +13,7 @@ from typing import Any, Callable, Iterable, Protocol
 from aiohttp import web
 
 from host.core import Core, Frame
-from host.policy import Rule
+from host.rules import Rule
 from host.signatures import Signatures
 from host.terminal import printable
 

@@ -1,66 +1,19 @@
 """What is trusted for one pull: a rule made of options, or the one of a policy file (docs/POLICY.md) that covers the image."""
-import base64
 import re
 from pathlib import Path
 from typing import Any
 
 import yaml as untyped_yaml
 
-from host.certificates import Identity, LogKey, TrustedRoot, key_id
-from host.keys import public_keys
+from host.places import repository_of
+from host.rules import Identity, Rule
 
 yaml: Any = untyped_yaml
-COSIGN_SIGN = "https://sigstore.dev/cosign/sign/v1"
 # the types of a policy's members: [T] is a list of T, and {str: T} a mapping with members of any name
 IDENTITY = {"subject": str, "subjectRegExp": str, "issuer": str, "issuerRegExp": str}
 RULE = {"images": str, "keys": [str], "identities": [IDENTITY], "annotations": {str: str}, "trustedRoot": str, "logKeys": [str], "requireLog": bool,
         "predicateTypes": [str]}
 NAMES = {str: "a string (write it in quotes)", int: "an integer", bool: "true or false", list: "a list", dict: "a mapping"}
-
-
-class Rule:
-    """Who may sign: any of the keys or identities, with all of the annotations; the known logs, and whether a key's signature must be in one."""
-
-    def __init__(self, keys: list[Path], identities: list[Identity], annotations: dict[str, str], trusted_root: Path | None = None,
-                 log_keys: list[Path] | None = None, require_log: bool = False, predicates: list[str] | None = None) -> None:
-        self.keys = {key: str(path) for path in keys for key in public_keys(path)}
-        self.identities, self.annotations, self.require_log = identities, annotations, require_log
-        self.predicates = [COSIGN_SIGN, *(predicates or [])]
-        self.root = TrustedRoot(trusted_root) if trusted_root else None
-        logs = {key_id(key): LogKey(key) for path in log_keys or [] for key in public_keys(path)}
-        self.logs = logs | (self.root.logs if self.root else {})
-        if not keys and not identities:
-            raise ValueError("nobody is trusted: give a key, or an identity with a trusted root")
-        if identities and not self.root:
-            raise ValueError("an identity needs the trusted root under which it is vouched for (sigstore's trusted_root.json)")
-        if (require_log or identities) and not self.logs:
-            raise ValueError("a log entry is required, and no log is known: give a log's key or a trusted root that has one")
-
-    def settings(self) -> dict[str, Any]:
-        """Members of the core's settings. An identity without patterns, if nobody else may sign, becomes one of the core's constraints."""
-        alone = self.identities if len(self.identities) == 1 and not self.keys else []
-        names = [(str(one.exact[0]), one.exact[1]) for one in alone if None not in one.exact]
-        return {"keys": [base64.b64encode(key).decode() for key in self.keys],
-                "constraints": [{"annotations": self.annotations}] + [{"url" if "://" in one else "email": one, "issuer": by} for one, by in names],
-                "log_keys": {name: base64.b64encode(log.key).decode() for name, log in self.logs.items()},
-                "statements": self.predicates}
-
-
-def annotations_of(pairs: list[str]) -> dict[str, str]:
-    """Annotations from NAME=VALUE; ValueError if a name is given with two values, which cannot both hold."""
-    found: dict[str, str] = {}
-    for name, equals, value in (pair.partition("=") for pair in pairs):
-        if not name or not equals or found.setdefault(name, value) != value:
-            raise ValueError(f"the annotation {name}{equals}{value} is not NAME=VALUE, or {name} is given with two values, which cannot both hold")
-    return found
-
-
-def repository_of(reference: str) -> str:
-    """Registry and repository of a reference, as the core parses it."""
-    first, slash, rest = reference.partition("/")
-    registry, path = (first.lower(), rest) if slash and ("." in first or ":" in first or first == "localhost") else ("docker.io", reference)
-    path = path.partition("@")[0].partition(":")[0]
-    return f"docker.io/{'' if '/' in path else 'library/'}{path}" if registry in ("docker.io", "index.docker.io") else f"{registry}/{path}"
 
 
 class Policy:

@@ -16,8 +16,10 @@ TOP = Path(__file__).resolve().parent.parent.parent
 sys.path[:0] = [str(TOP), str(TOP / "tests")]
 
 from keyless import ISSUER, Sigstore, der, pem  # noqa: E402
-from host.certificates import Identity  # noqa: E402
-from host.policy import COSIGN_SIGN, Policy, Rule, annotations_of, repository_of  # noqa: E402
+
+from host.places import repository_of  # noqa: E402
+from host.policy import Policy  # noqa: E402
+from host.rules import COSIGN_SIGN, Identity, Rule, annotations_of  # noqa: E402
 
 WHO, URL = "release@example.com", "https://ci.example.com/release.yml@refs/heads/main"
 
