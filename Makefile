@@ -31,6 +31,7 @@ install: SHARE = $(DESTDIR)$(PREFIX)/share
 install:
 	install -d $(LIBRARY)/bin $(LIBRARY)/host $(DESTDIR)$(PREFIX)/bin $(SHARE)/man/man1 $(SHARE)/doc/roksnaep $(SHARE)/bash-completion/completions $(SHARE)/zsh/vendor-completions
 	install -m 644 host/*.py host/*.toml $(LIBRARY)/host
+	/usr/bin/python3 -m compileall -q -s "$(DESTDIR)" -p / $(LIBRARY)/host
 	install -m 755 bin/roksnaep $(LIBRARY)/bin
 	for name in roksnaep-core pull_program; do install -m 755 "$$(tests/release path $$name)" $(LIBRARY)/bin/$$name || exit 1; done
 	ln -sfn ../lib/roksnaep/bin/roksnaep $(DESTDIR)$(PREFIX)/bin/roksnaep

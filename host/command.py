@@ -3,7 +3,6 @@ import argparse
 import contextlib
 import math
 import os
-import platform
 import re
 import signal
 import sys
@@ -11,9 +10,9 @@ import time
 from pathlib import Path
 from typing import Any, NoReturn, Sized
 
-from host.certificates import Identity
 from host.blobs import Blobs, Refused, parsed, refused_layer
-from host.conversation import Exchanges, Registry, Sent, converse
+from host.checks import Checks, fits
+from host.conversation import Answered, Exchanges, Sent, converse
 from host.copies import Copy, Sides
 from host.core import Core, Frame
 from host.credentials import credentials
@@ -21,13 +20,13 @@ from host.layout import Layout, Stored
 from host.lock import Lock, Pinned, entry_of, read_lock, text_of, whole, write_lock
 from host.network import SIGNALS, Network
 from host.options import parser
-from host.places import Access, is_loopback
-from host.policy import Policy, Rule, annotations_of, repository_of
+from host.places import Access, is_loopback, repository_of
 from host.refusals import Refusals
+from host.rules import Identity, Rule, annotations_of
 from host.signatures import Signatures
 from host.terminal import ENDS, OUTCOMES, End, failed, printable, progress, tell
 
-MACHINE = {"x86_64": "amd64", "aarch64": "arm64", "armv7l": "arm", "i686": "386"}.get(platform.machine(), platform.machine())
+MACHINE = {"x86_64": "amd64", "aarch64": "arm64", "armv7l": "arm", "i686": "386"}.get(os.uname().machine, os.uname().machine)
 
 
 def rule_by(option: argparse.Namespace, reference: str) -> Rule:
@@ -41,6 +40,7 @@ def rule_by(option: argparse.Namespace, reference: str) -> Rule:
         return Rule(option.key, identities, annotations, option.trusted_root, option.log_key, option.require_log, option.predicate_type)
     if any((subjects, issuers, option.key, option.annotation, option.trusted_root, option.log_key, option.require_log, option.predicate_type)):
         raise ValueError("--policy stands alone: write keys, identities, annotations and logs into it")
+    from host.policy import Policy  # which takes a while, and only this needs
     rule = Policy(option.policy).for_reference(reference)
     if not rule:
         raise End(1, f"{reference} is covered by no rule of {option.policy}; add a rule for it")
@@ -137,8 +137,8 @@ class Run:
                 is_expired = True
             if is_expired:
                 self.core, is_first = Core(), False
-        registry: Registry = self.registry
-        if end["frame"] == "pulled" and self.has_blobs and self.settings["frame"] == "documents" and (refused := self.blobs()):
+        registry: Answered = self.registry
+        if end["frame"] == "pulled" and self.has_blobs and self.settings["frame"] == "documents" and (refused := self.blobs(end)):
             end, registry = refused
         name, signer = self.option.place, signatures.signer(end.get("signature", ""))
         if end["frame"] == "ended":
@@ -158,10 +158,20 @@ class Run:
         except ValueError:
             return False
 
-    def blobs(self) -> Refused | None:
+    def word(self, end: Frame) -> Frame | None:
+        """The first frame of a check of a layout's image; nothing if its documents cannot be members of it."""
+        with contextlib.suppress(UnicodeDecodeError):
+            entry = entry_of(self.settings["reference"], self.option.type, self.sent, end)
+            word = {"frame": "check", "entry": entry, "settings": self.settings}
+            return word if fits(word) else None
+        return None
+
+    def blobs(self, end: Frame) -> Refused | None:
         """Why the layers or a blob is refused, if one is."""
         if refused := refused_layer(self.option.place, self.manifest, self.option.type):
             return refused, self.registry
+        if isinstance(self.registry, Stored) and (word := self.word(end)):
+            return Checks(word, self.manifest, self.registry.beside, self.rule).run()
         return Blobs({"frame": "blobs", "settings": self.settings, "manifest": self.manifest}, self.registry.beside, self.layout).run()
 
 
@@ -204,6 +214,7 @@ def admit(option: argparse.Namespace) -> NoReturn:
 
     try:
         from host.admission import Deciders, Webhook, serve
+        from host.policy import Policy
     except ImportError as error:
         raise ValueError(f"{error}; apt-get install python3-aiohttp") from None
     policy, (host, _, port) = Policy(option.policy), option.listen.rpartition(":")
@@ -282,7 +293,7 @@ def main(words: list[str]) -> int:
         for number in SIGNALS:
             if signal.getsignal(number) != signal.SIG_IGN:  # as nohup has it
                 signal.signal(number, stop)
-        option = parser().parse_args(words)
+        option = parser(*words[:1]).parse_args(words)
         place = str(option.lock) if option.word == "lockcheck" else " ".join(option.place) if option.word == "lock" else getattr(option, "place", "admission")
         if option.word != "admit":
             signal.setitimer(signal.ITIMER_REAL, option.deadline)

@@ -2,18 +2,20 @@
 import contextlib
 import functools
 import re
+import warnings
 from pathlib import Path
 from typing import Any
 
-from cryptography import x509
 from cryptography.exceptions import UnsupportedAlgorithm
 from cryptography.hazmat.primitives.asymmetric import ec, ed25519, padding, rsa, utils
 from cryptography.hazmat.primitives.hashes import SHA256, HashAlgorithm
 from cryptography.hazmat.primitives.serialization import Encoding, PublicFormat, load_der_public_key, load_pem_public_key
+from cryptography.utils import CryptographyDeprecationWarning
 
 BLOCK = re.compile(rb"-----BEGIN ((?:RSA )?PUBLIC KEY)-----[^-]*-----END \1-----")
 CURVES = (ec.SECP256R1, ec.SECP384R1, ec.SECP521R1)
 ACCEPTED = "ECDSA on P-256, P-384 or P-521, RSA of 2048 to 16384 bits, or Ed25519"
+warnings.simplefilter("error", CryptographyDeprecationWarning)  # such as of a negative serial number: refused, and not printed
 
 
 @functools.lru_cache(256)
@@ -22,6 +24,7 @@ def load(data: bytes) -> Any:
     key: Any = None
     with contextlib.suppress(ValueError, UnsupportedAlgorithm):
         if data.startswith(b"-----BEGIN CERTIFICATE"):
+            from cryptography import x509  # which takes a while, and only certificates need
             key = x509.load_pem_x509_certificate(data).public_key()
         else:
             key = load_pem_public_key(data) if data.startswith(b"-----") else load_der_public_key(data)

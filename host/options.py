@@ -37,18 +37,22 @@ def seconds(text: str) -> float:
     return float(text)
 
 
-def parser() -> argparse.ArgumentParser:
+def parser(asked: str = "") -> argparse.ArgumentParser:
+    """With the options of all words, or of the one that is asked for alone, which takes less time."""
     table = tomllib.loads((Path(__file__).parent / "options.toml").read_text())
     made = Parser(prog="roksnaep", description=PURPOSE, epilog=STATUSES)
     made.add_argument("--version", action=Version, nargs=0, help="prints the version, and which core runs")
     with contextlib.suppress(ImportError):
-        __import__("shtab").add_argument_to(made, "--print-completion", help="writes the completion script of a shell")
+        if asked not in table:
+            __import__("shtab").add_argument_to(made, "--print-completion", help="writes the completion script of a shell")
     words = made.add_subparsers(dest="word", required=True, metavar="|".join(table_words := [word for word in table if word != "options"]), help="each has its own --help")
     for word in table_words:
         of = table[word]
         description = f"{of['help'][0].upper()}{of['help'][1:]}."
         one = words.add_parser(word, help=of["help"], usage=f"roksnaep {word} {of.get('usage', of['place'])} [options]", description=description,
                                epilog=f"{of['examples']}\n{STATUSES}", formatter_class=argparse.RawDescriptionHelpFormatter)
+        if asked in table and word != asked:
+            continue
         if of["place"]:
             one.add_argument("place", metavar=of["place"], **({"nargs": of["nargs"]} if "nargs" in of else {}))
         if "target" in of:

@@ -21,6 +21,8 @@ ANSWERS = {
     "UnauthorizedError": ("{0} needs credentials, or other ones{because}", "check --username and the password, or log in (docker login)"),
     "UnsupportedMediaTypeError": ("a document has the type {0}, which is not accepted", "choose another image"),
     "Taken": ("{0} is there already, with the digest {1}", "choose another tag, or replace it by --replace"),
+    "Altered": ("the blob {0} is missing, or is not the one that the manifest names", "pull the image again"),
+    "Undecided": ("its documents do not hold", "pull the image again"),
     "Missing": ("the target does not have {0}, although it took it", "copy again, and see the target's own log"),
     "OciReferenceNotValidError": ("{0} is not a valid reference", "write it as registry/name:tag"),
     "WantOfMemory": ("out of memory", "run it with more memory"),
@@ -67,9 +69,9 @@ class Refusals:
         try:
             lines = [[json.loads(word) if word[0] == '"' else word for word in WORD.findall(line)] for line in report.split("\n")[:-1]]
             name, *kept = lines[0][1:]
-            cause = kept[1:] if name in ("RegistryFetchManifestError", "RegistryPullError", "Push") else [name, *kept]
+            cause = kept[1:] if name in ("RegistryFetchManifestError", "RegistryPullError", "Push", "Tag") else [name, *kept]
             what, advice = self.unsigned(kept[0], lines[1:]) if name == "Unsatisfied" else self.answer(cause)
-            what = f"{kept[0]} was not pushed: {what}" if name == "Push" else what
+            what = {"Push": "{} was not pushed: ", "Tag": "it is not known what {} names: "}.get(name, "").format(*kept[:1]) + what
         except (ValueError, LookupError):  # what a registry wrote is in the report
             what, advice = f"its report is {json.dumps(report)}", ASK
         return f"refused {reference}: {what}; {advice}"

@@ -1,8 +1,6 @@
 """Which program runs: one that is named, installed or built here, else the released one, unpacked once its checksum is verified."""
 import hashlib
-import lzma
 import os
-import tempfile
 from pathlib import Path
 
 VERSION = "0.1.0"
@@ -33,6 +31,8 @@ def unpacked(name: str) -> Path:
     digest = listed[listed.index(packed.name) - 1]
     to = Path(os.environ.get("XDG_CACHE_HOME") or Path.home() / ".cache") / "roksnaep" / digest / name
     if not to.exists():
+        import lzma  # which take a while, and only this needs
+        import tempfile
         if hashlib.sha256(packed.read_bytes()).hexdigest() != digest:
             raise ValueError(f"{packed} does not have its checksum in SHA256SUMS; restore both: git checkout {DIST}")
         to.parent.mkdir(mode=0o700, parents=True, exist_ok=True)

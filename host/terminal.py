@@ -45,6 +45,11 @@ class Progress:
             print(f"\r{printable(text)}", end="\x1b[K", file=sys.stderr, flush=True)
             self.is_shown = True
 
+    def clear(self) -> None:
+        """Removes a line that another process may have shown, and not ended."""
+        if sys.stderr.isatty():
+            print("\r", end="\x1b[K", file=sys.stderr, flush=True)
+
     def end(self) -> None:
         if self.is_shown:
             print(file=sys.stderr, flush=True)

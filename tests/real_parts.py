@@ -749,7 +749,7 @@ def refuses_a_silent_registry(live):
 def every_option_has_a_case(live):
     """Each option in --help is given by a case of tests/live."""
     table = tomllib.loads((HOST / "options.toml").read_text())
-    text = "".join((HOST.parent / "tests" / name).read_text() for name in ("live", "real_parts.py", "copies.py", "locks.py"))
+    text = "".join((HOST.parent / "tests" / name).read_text() for name in ("live", "real_parts.py", "copies.py", "locks.py", "admissions.py"))
     absent = [names for group in table["options"].values() for names in group if not any(f'"{name}"' in text for name in names.split())]
     assert not absent, absent
 

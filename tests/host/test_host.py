@@ -16,7 +16,7 @@ from support import IMAGE, LAYERS, MANIFEST, TOP, WithFolder, digest_of, openssl
 
 import host.command
 import host.layout
-from host.policy import COSIGN_SIGN
+from host.rules import COSIGN_SIGN
 from host.refusals import Refusals
 
 
@@ -54,7 +54,8 @@ class Command(WithFolder):
                 lines = os.read(ours, 100000).decode().replace("\r\n", "\n").split("\n")
                 os.close(ours)
                 if status:  # the sentence has a line of its own
-                    self.assertTrue(any(line.startswith(f"refused {where}/app:v1: the connection failed") for line in lines), lines)
+                    shown = [line.split("\r")[-1].removeprefix("\x1b[K") for line in lines]
+                    self.assertTrue(any(line.startswith(f"refused {where}/app:v1: the connection failed") for line in shown), lines)
                 else:
                     self.assertTrue(lines[-2].split("\r")[-1].startswith(digest_of(LAYERS[1])[:19]), lines)
 
@@ -304,6 +305,7 @@ class Parts(unittest.TestCase):
             (f'refused RegistryPullError "{S}" ManifestParsingError 12\n', "a response is refused as ManifestParsingError 12"),
             (f'refused Push "sha256:a" RegistryError 1 "{U}0"\n', f"sha256:a was not pushed: {U}0 returned the status 500; see"),
             (f'refused Taken "{S}" "sha256:a"\n', f"{S} is there already, with the digest sha256:a; choose another tag"),
+            (f'refused Tag "{S}" RegistryError 1 "{U}0"\n', f"it is not known what {S} names: {U}0 returned the status 500; see"),
             ('refused Missing "sha256:a"\n', "the target does not have sha256:a, although it took it; copy again"),
             ("refused BodyTooLong\n", "a body is longer than the limit; do not use it"),
             (f'refused UnauthorizedError "{U}"\n', f"{U} needs credentials, or other ones (why)"),
