@@ -6,6 +6,7 @@ from pathlib import Path
 VERSION = "0.1.0"
 TOP = Path(__file__).resolve().parent.parent
 DIST = TOP / "dist"
+V3 = {"abm", "avx2", "bmi1", "bmi2", "f16c", "fma", "movbe"}  # what x86-64-v3 has beyond x86-64-v2, as the kernel names it
 
 
 def made_of() -> dict[str, bytes]:
@@ -25,9 +26,17 @@ def sources(kit: str) -> str:
     return hashlib.sha256("".join(lines).encode()).hexdigest()
 
 
-def unpacked(name: str) -> Path:
-    """The released program, in the user's cache."""
-    packed, listed = DIST / f"{name}-x86_64.xz", (DIST / "SHA256SUMS").read_text().split()
+def has_v3(cpuinfo: Path = Path("/proc/cpuinfo")) -> bool:
+    """Whether each processor that is here runs code for x86-64-v3."""
+    flags = [set(line.partition(":")[2].split()) for line in cpuinfo.read_text().splitlines() if line.startswith("flags")]
+    return bool(flags) and all(V3 <= found for found in flags)
+
+
+def unpacked(name: str, wide: bool | None = None) -> Path:
+    """The released program for the processors that are here, in the user's cache."""
+    listed = (DIST / "SHA256SUMS").read_text().split()
+    wider = has_v3() if wide is None else wide
+    packed = DIST / (f"{name}-x86_64_v3.xz" if wider and f"{name}-x86_64_v3.xz" in listed else f"{name}-x86_64.xz")
     digest = listed[listed.index(packed.name) - 1]
     to = Path(os.environ.get("XDG_CACHE_HOME") or Path.home() / ".cache") / "roksnaep" / digest / name
     if not to.exists():

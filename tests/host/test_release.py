@@ -68,6 +68,21 @@ class Release(unittest.TestCase):
         (self.top / "dist/roksnaep-core-x86_64.xz").write_bytes(b"")
         self.assertEqual(release.program("roksnaep-core")[0], path)
 
+    def test_the_processor(self):
+        """The program for x86-64-v3 is taken where it is released, and where every processor has what it needs."""
+        self.release()
+        wide = lzma.compress(b"#!/bin/sh\necho wide\n")
+        needed = " ".join(sorted(release.V3))
+        cpuinfo = self.put("cpuinfo", f"processor: 0\nflags\t\t: fpu {needed}\n\nprocessor: 1\nflags\t\t: fpu {needed}\n".encode())
+        older = self.put("older", f"processor: 0\nflags\t\t: fpu {needed}\n\nprocessor: 1\nflags\t\t: fpu sse4_2\n".encode())
+        self.assertEqual((release.has_v3(cpuinfo), release.has_v3(older), release.has_v3(self.put("empty", b""))), (True, False, False))
+        self.assertEqual(release.unpacked("roksnaep-core", True).read_bytes(), PROGRAM)
+        self.put("dist/roksnaep-core-x86_64_v3.xz", wide)
+        with (self.top / "dist/SHA256SUMS").open("a") as sums:
+            sums.write(f"{hashlib.sha256(wide).hexdigest()}  roksnaep-core-x86_64_v3.xz\n")
+        self.assertEqual(release.unpacked("roksnaep-core", True).read_bytes(), b"#!/bin/sh\necho wide\n")
+        self.assertEqual(release.unpacked("roksnaep-core", False).read_bytes(), PROGRAM)
+
     def test_a_wrong_checksum_is_refused(self):
         self.release()
         file = self.top / "dist/roksnaep-core-x86_64.xz"
