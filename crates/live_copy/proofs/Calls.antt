@@ -1,5 +1,5 @@
 -- A call of a client by a transport over the streams, by the frames that carried it.
-use Rattle.std.proofs.Common.{◌≡◌, inl, inr, ℕ, false, List, [], Bool, Option, Some, Result, Ok, Err, IfOk, IfErr, refl, subst, sym}
+use Rattle.std.proofs.Common.{◌≡◌, inl, inr, ℕ, [], Bool, Option, Result, Ok, Err, IfOk, IfErr, subst}
 use Rattle.oci_auth.specs.declared.auth.RegistryAuth.{RegistryAuth}
 use Rattle.oci_auth.specs.declared.auth_state.AuthState.{AuthState}
 use Rattle.oci_names.specs.declared.reference.Reference.{Reference}
@@ -27,7 +27,7 @@ use Rattle.free_targets.specs.Taken.{IsOfTarget, TagsWithin, taken_of}
 use Rattle.free_targets.specs.declared.refusals.TargetRefusal.{TargetRefusal}
 use Rattle.free_targets.specs.declared.refusals.TargetRefusal.TheVariants.{Taken, Unread}
 use Rattle.free_targets.specs.declared.refusals.TargetRefusal.TheVariants as tags
-use Rattle.live_copy.specs.Course.{AskedTags, ByFrames, Pushed, UnlessMemory, UnlessTagsMemory, ran_out}
+use Rattle.live_copy.specs.Course.{AskedTags, ByFrames, Pushed, UnlessMemory, UnlessTagsMemory}
 
 -- what a refused copy states
 abbrev StoppedIf : Context → Reference → Bool → VerifiedDocuments → Link → Link → AuthState → AuthState → Result PushReport DocumentsRefusal → Type 0

@@ -1,9 +1,8 @@
 -- How the parts of a copy fit together, and how it ends.
-use Rattle.std.proofs.Common.{◌≡◌, inl, inr, false, Bool, true, ◌∷◌, [], List, ℕ, Option, Some, None, is_some, Result, Ok, Err, IsErr, refl, sym, ap, subst, ◌∙◌, codes}
-use Rattle.std.specs.Prelude.{IfErr, IsErrAnd, OnOk}
+use Rattle.std.proofs.Common.{◌≡◌, inl, inr, false, true, [], List, ℕ, Option, Some, None, is_some, Result, Ok, Err, IsErr, refl, sym, subst, codes}
+use Rattle.std.specs.Prelude.{IfErr, IsErrAnd}
 use Rattle.serde_json.specs.Data.{Data}
 use Rattle.oci_auth.specs.declared.auth_state.AuthState.{AuthState}
-use Rattle.registry_cache.specs.Auths.{registry_auth}
 use Rattle.registry_calls.specs.Direct.{reference_in}
 use Rattle.oci_engine.specs.Kept.{auth_state_of}
 use Rattle.cosign_documents.specs.declared.documents.VerifiedDocuments.{VerifiedDocuments}

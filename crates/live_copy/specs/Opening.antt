@@ -1,5 +1,5 @@
 -- The client of the target, and its arguments.
-use Rattle.std.specs.Prelude.{◌≡◌, ◌&&◌, ℕ, Bool, Ok, not, unwrap_or, Option, None}
+use Rattle.std.specs.Prelude.{◌≡◌, ◌&&◌, Bool, Ok, not}
 use Rattle.oci_auth.specs.AuthState.{fresh}
 use Rattle.oci_engine.specs.Clients.{default_config, settings_of}
 use Rattle.oci_engine.specs.Kept.{auth_state_of}

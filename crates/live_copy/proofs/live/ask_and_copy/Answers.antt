@@ -1,4 +1,3 @@
-use Rattle.oci_engine.specs.Kept.{auth_state_of}
 use Rattle.live_copy.proofs.Ending.{free_ends, taken_ends}
 use Rattle.live_copy.proofs.live.ask_and_copy.Goals as goal
 
