@@ -1,4 +1,4 @@
-// Which tags of a target are asked for.
+// Which tags of a target are queried.
 ghost use Rattle.std.specs.Prelude.{◌≡◌, IfErr, IfOk, Some};
 ghost use Rattle.oci_protocol.specs.Runs.{Meets, Told};
 ghost use Rattle.engine_terms.specs.Error.{is_memory};

@@ -1,4 +1,4 @@
--- The last sink that was told that it has its blob.
+-- The last sink that was closed with its blob.
 use Rattle.std.proofs.Common.{◌≡◌, ℕ, Bool, true, false, List, [], ◌∷◌, ◌++◌, Option, Some, None, refl, sym, ap, ◌∙◌}
 use Rattle.std.specs.Prelude.{if◌then◌else◌}
 use Rattle.byte_streams.specs.declared.plain_sink.PlainSink.{PlainSink}

@@ -24,8 +24,8 @@ use Rattle.live_carry.specs.Heads.{side_head}
 
 -- ---- the calls
 
--- These requests were sent: a complete run of the row. Credentials and tokens were sent only where the call may send
--- them, and an error has its cause.
+-- These requests were sent: a complete run of the row. Credentials and tokens were sent only to places that the call
+-- may send them to, and an error has its cause.
 pub record Call {A : Type 0} (row : Row A) (entry : Entry) (s : Settings)
     (Why : List Exchange → ℕ → OciDistributionError → Type 0) (k l : AuthState) (r : Result A OciDistributionError)
     (old new : Wire) : Type 0 where
@@ -58,7 +58,7 @@ pub record Fetches (s : Context) (image : Reference) (x : OciDescriptor) (k : Au
   pub pulled : BlobsPulled s image k (x ∷ []) (without r) old new
   pub blob : IfOk r (λ bytes. Shown (λ c. IsBlobOf c x bytes) old new)
 
--- ---- each after the host was told whose requests follow
+-- ---- each after a frame that names whose requests follow
 
 pub record Asked (s : Context) (into : Reference) (digest : List ℕ) (k l : AuthState)
     (r : Result Bool OciDistributionError) (old new : Wire) : Type 0 where

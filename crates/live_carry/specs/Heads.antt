@@ -8,7 +8,7 @@ use Rattle.live_host.specs.Heads.{text_field}
 abbrev pub side_head : List ℕ → Data
 side_head side = fields (text_field (codes "frame") (codes "side") ∷ text_field (codes "side") side ∷ [])
 
--- whether a blob was pushed, or was there before
+-- whether a blob was pushed, or existed before
 abbrev pub state_name : Bool → List ℕ
 state_name true = codes "pushed"
 state_name false = codes "there"

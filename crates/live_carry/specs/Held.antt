@@ -14,11 +14,11 @@ use Rattle.live_carry.specs.LastStood.{last_stood}
 abbrev pub empty_sink : SinkState
 empty_sink = record { taken = Some []; faults = 0 }
 
--- a sink that was closed: the digest's bytes, the sink, and whether it was told that it has the blob
+-- a sink that was closed: the digest's bytes, the sink, and whether it was closed with the blob
 abbrev pub shut_by : Log ℕ Unit × Shut → Closed
 shut_by entry = closing (map (λ byte. byte.0) entry.0.items) (plain_sink_state entry.1.sink) entry.1.stood
 
--- the sink that is held: the last one that was told that it has its blob
+-- the sink that is held: the last one that was closed with its blob
 abbrev pub last_held : HeldSinks → Option PlainSink
 last_held sinks = last_stood None sinks.closed.items
 

@@ -1,4 +1,4 @@
--- The last sink that was told that it has its blob.
+-- The last sink that was closed with its blob.
 use Rattle.std.specs.Prelude.{ℕ, List, [], ◌∷◌, Option, Some, if◌then◌else◌}
 use Rattle.byte_streams.specs.declared.plain_sink.PlainSink.{PlainSink}
 use Rattle.http_server.specs.declared.log.Log.{Log}

@@ -8,18 +8,18 @@ use image_blobs::Sinks;
 use live_blobs::noted;
 use std::alloc::Global;
 
-/// A sink that was closed, and whether it was told that it has its blob.
+/// A sink that was closed, and whether it was closed with its blob.
 #[derive(Drop)]
 pub(crate) struct Shut {
     pub sink: PlainSink,
     pub stood: bool,
 }
 
-/// Opens a sink in memory for each blob, and holds the last one that was told that it has it.
+/// Opens a sink in memory for each blob, and holds the last one that was closed with it.
 #[derive(Drop)]
 pub(crate) struct HeldSinks {
     held: Option<PlainSink>,
-    // For proofs only: each sink that was closed, by its digest, and what it was told.
+    // For proofs only: each sink that was closed, by its digest, and whether with its blob.
     closed: Log<Log<u8, ()>, Shut>,
     ghost last: { held ≡ last_stood None closed.items },
 }

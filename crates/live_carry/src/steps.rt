@@ -1,4 +1,4 @@
-// The steps of a carry, each after the host was told whose requests follow.
+// The steps of a carry, each after a frame that names whose requests follow.
 ghost use Rattle.std.specs.Prelude.{◌≡◌, [], ◌∷◌, IfErr, OnOk};
 ghost use Rattle.oci_descriptors.specs.declared.descriptor.OciDescriptor.{OciDescriptor as Descriptor};
 ghost use Rattle.oci_engine.specs.Kept.{auth_state_of};
@@ -42,7 +42,7 @@ fn stopped<A: Drop>(outcome: Result<A, OciDistributionError>) -> Result<A, Stop>
     }
 }
 
-// The host is told whose requests follow.
+// Sends whose requests follow.
 fn tell_side<S: Source, K: Sink>(
     alloc: Global,
     streams: &mut Streams<S, K>,

@@ -54,7 +54,7 @@ pub record ByFrames {A : Type 0} (row : Row A) (old new : Wire) (k l : AuthState
   pub runs : Runs row k 0 conversation faults l r
   pub carried : Carries conversation old new
 
--- The documents were copied, from this client state on: the target was asked for each blob, and then they were pushed;
+-- The documents were copied, from this client state on: the target was asked whether it has each blob, and then they were pushed;
 -- credentials and tokens were sent only to the target's registry and to the realm that it names.
 pub record Pushed (s : Context) (image : Reference) (a : RegistryAuth) (tag : Bool) (d : VerifiedDocuments)
     (k : AuthState) (r : Result PushReport DocumentsRefusal) (old new : Wire) : Type 0 where
@@ -72,7 +72,7 @@ pub record AskedTags (s : Context) (image : Reference) (a : RegistryAuth) (d : V
   pub run : ByFrames (target_free s image a d) old new k l (taken_of r)
   pub confined : Shown (TagsWithin k s image (tag_reference image d.digest) a l) old new
 
--- Or nothing was asked for, since the tags may be replaced or none is pushed.
+-- Or no request was sent, since the tags may be replaced or none is pushed.
 abbrev pub TagsAsked : Bool → Context → Reference → RegistryAuth → VerifiedDocuments → AuthState → AuthState
     → Result (Unit {0}) TargetRefusal → Wire → Wire → Type 0
 TagsAsked true s image a d k l r old new = AskedTags s image a d k l r old new
@@ -174,7 +174,7 @@ pub record LiveCopy (settings : CopySettings) (d : VerifiedDocuments) (r : Resul
 
 -- ---- how it ends
 
--- at the end no frame was received, or one that answers nothing
+-- at the end no frame was received, or one that is no reply
 abbrev pub IsCopyBroken : Wire → Type 0
 IsCopyBroken new = IsBroken new ⊎ ((old : Wire) × (d : Data) × ReceivesFrame d old new × (carried_of d ≡ None))
 

@@ -18,7 +18,7 @@ target_settings settings = record (settings_of default_config) { protocol = sett
 abbrev pub target_context : CopySettings → Context
 target_context settings = within (target_settings settings) settings.settings.moment
 
--- whether the target's tags are asked for: one is pushed, and may not be replaced
+-- whether the target's tags are queried: one is pushed, and may not be replaced
 abbrev pub asks_tags : CopySettings → Bool
 asks_tags settings = settings.tag && not settings.replace
 

@@ -10,7 +10,7 @@ use oci_engine::Client;
 use pull_mirror::CopyTarget;
 use std::alloc::{AllocError, Global};
 
-/// The target's client, what it pushes to, whether its tags are asked for before, and when (in seconds since 1970).
+/// The target's client, what it pushes to, whether its tags are queried before, and when (in seconds since 1970).
 #[derive(Drop)]
 pub(crate) struct Opened {
     pub client: Client,
