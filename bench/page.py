@@ -15,7 +15,7 @@ from figures import page  # noqa: E402
 
 SCRIPTS = [
     "run", "canon", "documents", "signatures", "referrers", "caching",
-    "bundles", "streams", "pushes", "generated", "reviews", "locks", "pulls", "copies",
+    "bundles", "streams", "pushes", "generated", "reviews", "locks", "pulls", "copies", "webhooks",
 ]
 
 
