@@ -5,10 +5,14 @@ ghost use Rattle.recorded_chain.specs.Input.{chain_input_in};
 ghost use Rattle.pull_run.specs.Check.{PrintsVerdict, verdict};
 
 use crate::task::Task;
+use first_members::may_have_only;
 use json_values::Blob;
 use pulled_cases::Report;
 use recorded_chain::{ChainInput, chain_holds, read_chain_input};
 use std::alloc::{AllocError, Global};
+
+// The members of the input.
+const NAMES: &[&str] = &["case", "chain"];
 
 impl Task for ChainInput {
     ghost reads = { chain_input_in };
@@ -21,6 +25,10 @@ impl Task for ChainInput {
         ensures exact { IfOk result (λ found. found ≡ chain_input_in bytes.now) }
         ensures valid { IfOk result (λ found. IfSome found (λ input. IsReady input.case)) }
     {
+        let may = may_have_only(alloc, bytes, NAMES)?;
+        if !may {
+            return Ok(None);
+        }
         read_chain_input(alloc, bytes)
     }
 

@@ -6,11 +6,15 @@ ghost use Rattle.locked_cases.specs.Input.{cases_in, check_in, AreReady};
 ghost use Rattle.locked_cases.specs.Locks.{LocksCases};
 
 use crate::task::Task;
+use first_members::may_have_only;
 use locked_cases::{
     CheckInput, LockInput, check_input, lock_cases, read_check_input, read_lock_input,
 };
 use pulled_cases::Report;
 use std::alloc::{AllocError, Global};
+
+// The members of the input of `lockcheck`.
+const NAMES: &[&str] = &["case", "lock"];
 
 impl Task for LockInput {
     ghost reads = { cases_in };
@@ -42,6 +46,10 @@ impl Task for CheckInput {
         ensures exact { IfOk result (λ found. found ≡ check_in bytes.now) }
         ensures valid { IfOk result (λ found. IfSome found (λ input. IsReady input.case)) }
     {
+        let may = may_have_only(alloc, bytes, NAMES)?;
+        if !may {
+            return Ok(None);
+        }
         read_check_input(alloc, bytes)
     }
 

@@ -4,9 +4,13 @@ ghost use Rattle.mirrored_cases.specs.Input.{IsForMirror, mirror_input_in};
 ghost use Rattle.mirrored_cases.specs.Reports.{ReportsMirror};
 
 use crate::task::Task;
+use first_members::may_have_only;
 use mirrored_cases::{MirrorInput, mirror_case, read_mirror_input};
 use pulled_cases::Report;
 use std::alloc::{AllocError, Global};
+
+// The members of the input.
+const NAMES: &[&str] = &["case", "target"];
 
 impl Task for MirrorInput {
     ghost reads = { mirror_input_in };
@@ -19,6 +23,10 @@ impl Task for MirrorInput {
         ensures exact { IfOk result (λ found. found ≡ mirror_input_in bytes.now) }
         ensures valid { IfOk result (λ found. IfSome found IsForMirror) }
     {
+        let may = may_have_only(alloc, bytes, NAMES)?;
+        if !may {
+            return Ok(None);
+        }
         read_mirror_input(alloc, bytes)
     }
 

@@ -4,9 +4,13 @@ ghost use Rattle.reviewed_cases.specs.Input.{IsForReview, review_input_in};
 ghost use Rattle.reviewed_cases.specs.Responses.{ReportsReview};
 
 use crate::task::Task;
+use first_members::may_have_only;
 use pulled_cases::Report;
 use reviewed_cases::{ReviewInput, read_review_input, review_case};
 use std::alloc::{AllocError, Global};
+
+// The members of the input.
+const NAMES: &[&str] = &["settings", "review"];
 
 impl Task for ReviewInput {
     ghost reads = { review_input_in };
@@ -19,6 +23,10 @@ impl Task for ReviewInput {
         ensures exact { IfOk result (λ found. found ≡ review_input_in bytes.now) }
         ensures valid { IfOk result (λ found. IfSome found IsForReview) }
     {
+        let may = may_have_only(alloc, bytes, NAMES)?;
+        if !may {
+            return Ok(None);
+        }
         read_review_input(alloc, bytes)
     }
 

@@ -2,6 +2,8 @@
 #![tactic(auto)]
 
 #[cfg(test)]
+mod members;
+#[cfg(test)]
 mod tables;
 #[cfg(test)]
 mod values;

@@ -56,7 +56,8 @@ fn wrapped(alloc: Global, text: Blob, times: u8) -> Result<Blob, AllocError> {
     Ok(whole)
 }
 
-fn repeated(alloc: Global, text: &[u8], times: u16) -> Result<Blob, AllocError> {
+/// These bytes so many times.
+pub(crate) fn repeated(alloc: Global, text: &[u8], times: u16) -> Result<Blob, AllocError> {
     let mut bytes = Blob::empty(alloc);
     for _ in 0..times {
         bytes.append(text)?;

@@ -1,0 +1,18 @@
+use Rattle.std.proofs.Common.{◌≡◌, ℕ, List, [], ◌∷◌, None, refl, sym}
+use Rattle.std.specs.Prelude.{codes}
+use Rattle.serde_json.specs.Data.{Data}
+use Rattle.json_tables.specs.Objects.{only}
+use Rattle.first_members.proofs.Refusals.{plain_refused}
+use Rattle.locked_cases.specs.Input.{check_of}
+use Rattle.pull_run.proofs.lock.CheckInputTask.read.Goals as goal
+
+abbrev names : List (List ℕ)
+names = codes "case" ∷ codes "lock" ∷ []
+
+refused : (d : Data) → only names d ≡ None → check_of d ≡ None
+unfolding check_of
+refused d e = rw e refl
+
+pub returns-then-not-may-clause-exact : goal.returns-then-not-may-clause-exact
+returns-then-not-may-clause-exact c =
+    sym (plain_refused names check_of refused c.args.bytes.now (c.in_ok-may.ensures c.if-not-may.true))
