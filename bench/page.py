@@ -14,7 +14,7 @@ sys.dont_write_bytecode = True
 from figures import page  # noqa: E402
 
 SCRIPTS = [
-    "run", "canon", "documents", "signatures", "referrers", "caching",
+    "run", "refused", "canon", "documents", "signatures", "referrers", "caching",
     "bundles", "streams", "pushes", "generated", "reviews", "locks", "pulls", "copies", "webhooks",
 ]
 

@@ -5,7 +5,7 @@ ghost use Rattle.recorded_chain.specs.Input.{chain_input_in};
 ghost use Rattle.pull_run.specs.Check.{PrintsVerdict, verdict};
 
 use crate::task::Task;
-use first_members::may_have_only;
+use json_members::may_have_only;
 use json_values::Blob;
 use pulled_cases::Report;
 use recorded_chain::{ChainInput, chain_holds, read_chain_input};

@@ -4,7 +4,7 @@ ghost use Rattle.mirrored_cases.specs.Input.{IsForMirror, mirror_input_in};
 ghost use Rattle.mirrored_cases.specs.Reports.{ReportsMirror};
 
 use crate::task::Task;
-use first_members::may_have_only;
+use json_members::may_have_only;
 use mirrored_cases::{MirrorInput, mirror_case, read_mirror_input};
 use pulled_cases::Report;
 use std::alloc::{AllocError, Global};

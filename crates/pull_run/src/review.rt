@@ -4,7 +4,7 @@ ghost use Rattle.reviewed_cases.specs.Input.{IsForReview, review_input_in};
 ghost use Rattle.reviewed_cases.specs.Responses.{ReportsReview};
 
 use crate::task::Task;
-use first_members::may_have_only;
+use json_members::may_have_only;
 use pulled_cases::Report;
 use reviewed_cases::{ReviewInput, read_review_input, review_case};
 use std::alloc::{AllocError, Global};

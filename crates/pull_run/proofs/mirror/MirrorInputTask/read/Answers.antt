@@ -2,7 +2,7 @@ use Rattle.std.proofs.Common.{◌≡◌, ℕ, List, [], ◌∷◌, None, refl, s
 use Rattle.std.specs.Prelude.{codes}
 use Rattle.serde_json.specs.Data.{Data}
 use Rattle.json_tables.specs.Objects.{only}
-use Rattle.first_members.proofs.Refusals.{plain_refused}
+use Rattle.json_members.proofs.Refusals.{plain_refused}
 use Rattle.mirrored_cases.specs.Input.{mirror_input_of}
 use Rattle.pull_run.proofs.mirror.MirrorInputTask.read.Goals as goal
 

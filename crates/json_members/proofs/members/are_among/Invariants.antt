@@ -1,6 +1,6 @@
 use Rattle.std.proofs.Common.{Bool, map, length}
-use Rattle.first_members.specs.Tokens.{DecidesRest}
-use Rattle.first_members.proofs.members.are_among.Given as goal
+use Rattle.json_members.specs.Tokens.{DecidesRest}
+use Rattle.json_members.proofs.members.are_among.Given as goal
 
 -- what the members that are left decide, all of them decide
 abbrev pub invariant-members : goal.invariant-members

@@ -1,5 +1,5 @@
 use Rattle.std.proofs.Common.{◌≤◌}
-use Rattle.first_members.proofs.members.front.Given as goal
+use Rattle.json_members.proofs.members.front.Given as goal
 
 abbrev pub invariant-loop-end : goal.invariant-loop-end
 invariant-loop-end l = l.end ≤ 65536

@@ -1,7 +1,7 @@
 use Rattle.std.proofs.Common.{◌≡◌, Some, None, false, true, sym, arith}
 use Rattle.json.specs.Json.{read_key}
-use Rattle.first_members.proofs.Turns.{other_name, at_end, no_name, no_value, one_more}
-use Rattle.first_members.proofs.members.are_among.Goals as goal
+use Rattle.json_members.proofs.Turns.{other_name, at_end, no_name, no_value, one_more}
+use Rattle.json_members.proofs.members.are_among.Goals as goal
 
 pub members-preserved : goal.members-preserved
 members-preserved c =

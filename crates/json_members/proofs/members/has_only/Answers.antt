@@ -1,5 +1,5 @@
 use Rattle.json_values.proofs.JsonTexts.{json_of-refused}
-use Rattle.first_members.proofs.members.has_only.Goals as goal
+use Rattle.json_members.proofs.members.has_only.Goals as goal
 
 pub returns-in_default : goal.returns-in_default
 returns-in_default c =

@@ -4,20 +4,20 @@ ghost use Rattle.std.specs.Str.{bytes_eq};
 ghost use Rattle.json.specs.Reads.{token_of};
 ghost use Rattle.json_values.specs.JsonText.{json_of};
 ghost use Rattle.json_tables.specs.Objects.{only};
-ghost use Rattle.first_members.specs.Tokens.{opens_object, DecidesOnly, DecidesRest};
+ghost use Rattle.json_members.specs.Tokens.{opens_object, DecidesOnly, DecidesRest};
 
 use json::{Reader, Scratch, Token};
 use std::alloc::{AllocError, Global};
 use std::str;
 
-// How many bytes `may_have_only` looks at before it reads the whole text.
+// How many bytes `may_have_only` reads first.
 const FRONT: usize = 65536;
 
 // How deep arrays and objects may nest in a member of the object.
 const MEMBER_DEPTH: usize = 126;
 
-/// Returns false only if the bytes are not JSON, or denote no object with no other members than these. Reads the text
-/// as far as its first other member, and only if that begins within the first 64 KiB; builds no value.
+/// Returns false only if the bytes are not a JSON object with no other members than these. Reads the first 64 KiB, and
+/// the whole text only if they have another member. Builds no value.
 pub fn may_have_only(alloc: Global, bytes: &[u8], names: &[&str]) -> Result<bool, AllocError>
     ensures { IfOk result (λ may. may ≡ false
         → option_and_then (only (map (λ name. name.now) names.now)) (json_of bytes.now) ≡ None) }
@@ -28,7 +28,8 @@ pub fn may_have_only(alloc: Global, bytes: &[u8], names: &[&str]) -> Result<bool
     has_only(alloc, bytes, names)
 }
 
-/// If the bytes are JSON, returns whether they denote an object with no other members than these.
+/// If the bytes are JSON, returns whether they are an object with no other members than these. Reads up to the first
+/// other member.
 pub fn has_only(alloc: Global, bytes: &[u8], names: &[&str]) -> Result<bool, AllocError>
     ensures { IfOk result (λ holds. IfSome (json_of bytes.now)
         (λ d. holds ≡ is_some (only (map (λ name. name.now) names.now) d))) }
@@ -41,7 +42,7 @@ pub fn has_only(alloc: Global, bytes: &[u8], names: &[&str]) -> Result<bool, All
     Ok(is_object(&mut reader, names))
 }
 
-// The first bytes, and no part of a character.
+// The first bytes, without a part of a character at their end.
 fn front(bytes: &[u8]) -> &[u8] {
     if bytes.len() <= FRONT {
         return bytes;
@@ -53,6 +54,7 @@ fn front(bytes: &[u8]) -> &[u8] {
     &bytes[..end]
 }
 
+// Whether the next value is an object with these names only.
 fn is_object(reader: &mut Reader<'_>, names: &[&str]) -> bool
     ensures { DecidesOnly (map (λ name. name.now) names.now) reader.old result }
 {
@@ -71,7 +73,7 @@ fn opens_object(token: &Token<'_>) -> bool
     matches!(token, Token::BeginObject)
 }
 
-// Whether the members that follow have these names. True at the first that is not JSON.
+// Whether all members that follow have these names. Ends with true where the text is not JSON.
 fn are_among(reader: &mut Reader<'_>, names: &[&str]) -> bool
     ensures { DecidesRest (map (λ name. name.now) names.now) reader.old result }
 {

@@ -1,7 +1,7 @@
 use Rattle.std.proofs.Common.{sym}
 use Rattle.json.specs.Reads.{token_of}
-use Rattle.first_members.proofs.Turns.{no_object, no_token, from_token}
-use Rattle.first_members.proofs.members.is_object.Goals as goal
+use Rattle.json_members.proofs.Turns.{no_object, no_token, from_token}
+use Rattle.json_members.proofs.members.is_object.Goals as goal
 
 pub returns-in_default : goal.returns-in_default
 returns-in_default c = rw c.in_default.ensures.value.0 (no_token _)

@@ -8,8 +8,8 @@ use Rattle.json.proofs.Grammar.{value_is, value-begin_object, members_no_key, me
 use Rattle.serde_json.specs.Data.{Num, Data, number, array, object, Items, Members, no_members, put}
 use Rattle.serde_json.specs.Read.{number_of, of_json, of_items, of_members, converted}
 use Rattle.json_tables.specs.Objects.{only, names_within}
-use Rattle.first_members.specs.Tokens.{opens_object, DecidesOnly, DecidesRest}
-use Rattle.first_members.proofs.Names.{among, Within, first_out, put_in}
+use Rattle.json_members.specs.Tokens.{opens_object, DecidesOnly, DecidesRest}
+use Rattle.json_members.proofs.Names.{among, Within, first_out, put_in}
 
 module _ (names : List (List ℕ)) where
   -- what is decided of what was read
