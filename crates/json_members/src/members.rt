@@ -1,4 +1,4 @@
-ghost use Rattle.std.specs.Prelude.{◌≡◌, false, map, None, option_and_then, is_some, IfOk, IfSome};
+ghost use Rattle.std.specs.Prelude.{◌≡◌, ◌≤◌, false, length, map, None, option_and_then, is_some, IfOk, IfSome};
 ghost use Rattle.std.specs.List.{list_any};
 ghost use Rattle.std.specs.Str.{bytes_eq};
 ghost use Rattle.json.specs.Reads.{token_of};
@@ -19,8 +19,10 @@ const MEMBER_DEPTH: usize = 126;
 /// Returns false only if the bytes are not a JSON object with no other members than these. Reads the first 64 KiB, and
 /// the whole text only if they have another member. Builds no value.
 pub fn may_have_only(alloc: Global, bytes: &[u8], names: &[&str]) -> Result<bool, AllocError>
-    ensures { IfOk result (λ may. may ≡ false
+    ensures refused { IfOk result (λ may. may ≡ false
         → option_and_then (only (map (λ name. name.now) names.now)) (json_of bytes.now) ≡ None) }
+    ensures short { length bytes.now ≤ 65536 → IfOk result (λ may. IfSome (json_of bytes.now)
+        (λ d. may ≡ is_some (only (map (λ name. name.now) names.now) d))) }
 {
     if has_only(alloc, front(bytes), names)? {
         return Ok(true);
@@ -43,7 +45,10 @@ pub fn has_only(alloc: Global, bytes: &[u8], names: &[&str]) -> Result<bool, All
 }
 
 // The first bytes, without a part of a character at their end.
-fn front(bytes: &[u8]) -> &[u8] {
+fn front(bytes: &[u8]) -> &[u8]
+    ensures few { length result.now ≤ 65536 }
+    ensures short { length bytes.now ≤ 65536 → result.now ≡ bytes.now }
+{
     if bytes.len() <= FRONT {
         return bytes;
     }

@@ -15,4 +15,4 @@ refused d e = rw e refl
 
 pub returns-then-not-may-clause-exact : goal.returns-then-not-may-clause-exact
 returns-then-not-may-clause-exact c =
-    sym (plain_refused names check_of refused c.args.bytes.now (c.in_ok-may.ensures c.if-not-may.true))
+    sym (plain_refused names check_of refused c.args.bytes.now (c.in_ok-may.ensures.refused c.if-not-may.true))
