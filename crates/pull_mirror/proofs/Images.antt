@@ -65,7 +65,7 @@ all_named image accepted v target links =
 
 -- ---- all in the target's repository
 
-layers_in : (target : Reference) (xs : List OciDescriptor) (layers : List ImageLayer) → Every (IsIn target) (layer_blobs xs layers)
+pub layers_in : (target : Reference) (xs : List OciDescriptor) (layers : List ImageLayer) → Every (IsIn target) (layer_blobs xs layers)
 layers_in target [] layers = tt
 layers_in target (x ∷ xs) [] = tt
 layers_in target (x ∷ xs) (layer ∷ layers) = (tt, layers_in target xs layers)

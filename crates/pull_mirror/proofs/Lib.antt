@@ -5,6 +5,7 @@ pub mod Copied
 pub mod Copying
 pub mod Digests
 pub mod DocumentCopying
+pub mod EntrySending
 pub mod Images
 pub mod Mirroring
 pub mod Planned

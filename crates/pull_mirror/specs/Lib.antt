@@ -14,3 +14,4 @@ pub mod Asked
 pub mod DocumentCopies
 pub mod DocumentPushes
 pub mod DocumentPlans
+pub mod EntryPushes

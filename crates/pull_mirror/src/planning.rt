@@ -1,6 +1,7 @@
 // What is pushed for an image, planned before the first request.
 ghost use Rattle.std.specs.Prelude.{◌≡◌, [], ◌∷◌, ◌++◌, IfOk, OnOk, codes};
 ghost use Rattle.std.specs.Option.{option_copied};
+ghost use Rattle.pull_mirror.specs.EntryPushes.{entry_pushes};
 ghost use Rattle.pull_mirror.specs.Plans.{AddsBlob, Holds, IsPlan, push_of, pushes_of};
 ghost use Rattle.pull_mirror.specs.Pushes.{Push, blobs_of, layer_blobs, without_repeats, sha256_blob};
 ghost use Rattle.pull_mirror.specs.Pushes.{entry_by, manifest_push, signature_place, signature_push, tag_push};
@@ -98,6 +99,24 @@ fn layer_blobs<'a>(
         left = others;
     }
     Ok(blobs)
+}
+
+/// Plans the blobs of an image, each once, and its manifest by its digest.
+pub(crate) fn entry_pushes<'a>(
+    alloc: Global,
+    target: &Reference,
+    found: &'a VerifiedImage,
+) -> Result<List<Planned<'a>>, AllocError>
+    ensures { IfOk result (λ pushes. pushes_of pushes ≡ entry_pushes found.now target.now) }
+{
+    let manifest = &found.manifest;
+    let mut blobs = layer_blobs(alloc, manifest.layers.as_slice(), found.layers.as_slice())?;
+    let config = found.config.content.as_slice();
+    add_blob(alloc, &mut blobs, &manifest.config.digest, config)?;
+    let document = manifest_push(alloc, target, &found.manifest_digest, &found.manifest_bytes)?;
+    let mut pushes = blobs.pushes;
+    pushes.push(document)?;
+    Ok(pushes)
 }
 
 // Plans the blobs of an image, each once.
