@@ -1,5 +1,5 @@
 -- Rules, and the one that covers an image.
-use Rattle.std.specs.Prelude.{ℕ, List, [], ◌∷◌, Option, Some, None, if◌then◌else◌, codes}
+use Rattle.std.specs.Prelude.{◌≡◌, ℕ, zero, suc, true, false, List, [], ◌∷◌, Option, Some, None, if◌then◌else◌, codes}
 use Rattle.serde_json.specs.Data.{Data}
 use Rattle.json_tables.specs.Reading.{◌>>=◌, text_of}
 use Rattle.json_tables.specs.Member.{required}
@@ -24,3 +24,16 @@ first_for (rule ∷ rules) place = if covers rule.images place then Some rule el
 -- the first rule that covers an image
 abbrev pub rule_for : {T : Type 0} → List (Rule T) → Reference → Option (Rule T)
 rule_for rules image = first_for rules (place_of image)
+
+-- the rules, with these settings in the first one that covers a place
+abbrev pub with_first : {T : Type 0} → List (Rule T) → List ℕ → T → List (Rule T)
+with_first [] place settings = []
+with_first (rule ∷ rules) place settings =
+    if covers rule.images place then record rule { settings = settings } ∷ rules
+    else rule ∷ with_first rules place settings
+
+-- the rule at this index covers a place, and none before it does
+abbrev pub IsFirstAt : {T : Type 0} → List (Rule T) → List ℕ → ℕ → Type 0
+IsFirstAt [] place i = ⊥
+IsFirstAt (rule ∷ rules) place zero = covers rule.images place ≡ true
+IsFirstAt (rule ∷ rules) place (suc i) = (covers rule.images place ≡ false) × IsFirstAt rules place i

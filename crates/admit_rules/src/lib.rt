@@ -6,4 +6,4 @@ mod rule;
 mod rules;
 
 pub use rule::Rule;
-pub use rules::rule_for;
+pub use rules::{index_for, rule_for};

@@ -1,8 +1,8 @@
 // The rule that covers an image.
-ghost use Rattle.std.specs.Prelude.{◌≡◌, IfOk};
+ghost use Rattle.std.specs.Prelude.{◌≡◌, IfOk, MatchOption, None};
 ghost use Rattle.std.specs.Option.{option_copied};
 ghost use Rattle.admit_rules.specs.Covering.{place_of};
-ghost use Rattle.admit_rules.specs.Rules.{first_for, rule_for};
+ghost use Rattle.admit_rules.specs.Rules.{first_for, rule_for, IsFirstAt};
 
 use crate::place::{covers, place_of};
 use crate::rule::Rule;
@@ -31,5 +31,31 @@ pub fn rule_for<'a, T>(
 {
     let place = place_of(alloc, image)?;
     let found = first_for(rules, place.as_str());
+    Ok(found)
+}
+
+// The index of the first rule whose images have this place.
+fn first_at<T>(rules: &[Rule<T>], place: &str) -> Option<usize>
+    ensures { MatchOption result (first_for rules.now place.now ≡ None) (λ at. IsFirstAt rules.now place.now at) }
+{
+    for at in 0..rules.len() {
+        if covers(rules[at].images.as_str(), place) {
+            return Some(at);
+        }
+    }
+    None
+}
+
+/// Returns the index of the first rule that covers the image, or `None` if none does.
+pub fn index_for<T>(
+    alloc: Global,
+    rules: &[Rule<T>],
+    image: &Reference,
+) -> Result<Option<usize>, AllocError>
+    ensures { IfOk result (λ found. MatchOption found (rule_for rules.now image.now ≡ None)
+        (λ at. IsFirstAt rules.now (place_of image.now) at)) }
+{
+    let place = place_of(alloc, image)?;
+    let found = first_at(rules, place.as_str());
     Ok(found)
 }

@@ -1,3 +1,4 @@
+pub mod ClientStates
 pub mod Decisions
 pub mod Ends
 pub mod Reviews

@@ -1,3 +1,4 @@
+pub mod Clients
 pub mod Decided
 pub mod Frames
 pub mod Served

@@ -1,14 +1,16 @@
 // The decision about an image by the settings of a rule.
 ghost use Rattle.std.specs.Prelude.{◌≡◌};
+ghost use Rattle.cosign_client.specs.State.{client_state};
 ghost use Rattle.live_host.specs.Wire.{wire};
 ghost use Rattle.live_pull.specs.Settings.{IsReady};
+ghost use Rattle.live_documents.specs.Decided.{Suits};
 ghost use Rattle.live_admit.specs.Decided.{DecidedBy, Gives, VerdictOf};
 
 use crate::outcome::verdict_of;
 use byte_streams::{Sink, Source};
-use cosign_client::PullRefusal;
+use cosign_client::{Client, PullRefusal};
 use cosign_documents::VerifiedDocuments;
-use live_documents::{Decided, search_and_decide};
+use live_documents::{Decided, decide_again};
 use live_host::Streams;
 use live_pull::{LiveSettings, Status};
 use pod_reviews::Verdict;
@@ -38,17 +40,22 @@ fn judge_outcome<S: Source, K: Sink>(
     Judged { streams, verdict }
 }
 
-/// Decides about the image of these settings, as the frame `documents` does.
+/// Decides about the image of these settings, as the frame `documents` does, by a client that has them.
 pub(crate) fn decide<S: Source, K: Sink>(
     alloc: Global,
     streams: Streams<S, K>,
+    client: &mut Client,
     settings: LiveSettings,
 ) -> Judged<S, K>
     requires { IsReady settings }
-    ensures { Gives (λ v. DecidedBy settings v (wire S.state K.state streams) (wire S.state K.state result.streams))
+    ensures verdict { Suits settings client.old → Gives (λ v. DecidedBy settings
+        (client_state client.old).kept (client_state client.new).kept v
+        (wire S.state K.state streams) (wire S.state K.state result.streams))
         result.verdict (wire S.state K.state result.streams) }
+    ensures settings { (client_state client.new).settings ≡ (client_state client.old).settings }
+    ensures log_keys { client.new.rekor_pub_keys ≡ client.old.rekor_pub_keys }
 {
-    let Decided { streams, outcome } = search_and_decide(alloc, streams, settings);
+    let Decided { streams, outcome } = decide_again(alloc, streams, client, settings);
     match outcome {
         Ok(outcome) => judge_outcome(alloc, streams, outcome),
         Err(status) => Judged {

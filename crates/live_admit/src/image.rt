@@ -1,22 +1,26 @@
 // The decision about an image by the rules.
 ghost use Rattle.std.specs.Prelude.{◌≡◌, Err, IfErr, IsOk, Ok, OnOk, []};
 ghost use Rattle.oci_names.specs.Reference.{reference_of};
-ghost use Rattle.admit_rules.specs.Rules.{rule_for};
+ghost use Rattle.admit_rules.specs.Covering.{place_of};
+ghost use Rattle.admit_rules.specs.Rules.{rule_for, IsFirstAt};
 ghost use Rattle.pod_reviews.specs.declared.verdict.Denial.TheVariants.{NotAReference};
 ghost use Rattle.pod_reviews.specs.declared.verdict.Verdict.TheVariants.{Denied};
 ghost use Rattle.live_host.specs.HostErrors.{HostCause};
 ghost use Rattle.live_host.specs.Wire.{wire, SendsFrame};
+ghost use Rattle.live_documents.specs.Decided.{EndsEarly};
+ghost use Rattle.live_admit.specs.Clients.{Leads, LeadsOne};
 ghost use Rattle.live_admit.specs.Decided.{ByRule, Gives, ImageDecided, UnderRule};
 ghost use Rattle.live_admit.specs.Frames.{image_head as head_of_image};
 
+use crate::clients::RuleClient;
 use crate::decision::{Judged, decide};
 use crate::frames::image_head;
 use crate::settings::settings_for;
-use admit_rules::{Rule, rule_for};
+use admit_rules::{Rule, index_for};
 use byte_streams::{Sink, Source};
 use json_values::{Copied, Text};
 use live_host::{HostError, Streams, tell};
-use live_pull::{LiveSettings, Status};
+use live_pull::Status;
 use oci_names::{ParseError, Reference};
 use pod_reviews::{Denial, Verdict};
 use std::alloc::Global;
@@ -46,16 +50,16 @@ fn ended<S, K>(streams: Streams<S, K>, status: Status) -> Judged<S, K>
     }
 }
 
-// The decision under a rule.
+// The decision under a rule, by its client.
 fn decide_under<S: Source, K: Sink>(
     alloc: Global,
     streams: Streams<S, K>,
-    rule: &Rule<LiveSettings>,
+    rule: &mut Rule<RuleClient>,
     moment: u64,
     image: &Text,
 ) -> Judged<S, K>
     requires { IsOk (reference_of image.now) }
-    ensures { Gives (λ v. UnderRule rule.now moment image.now v
+    ensures { LeadsOne rule.old rule.new (λ before left v. UnderRule before left moment image.now v
         (wire S.state K.state streams) (wire S.state K.state result.streams))
         result.verdict (wire S.state K.state result.streams) }
 {
@@ -63,9 +67,32 @@ fn decide_under<S: Source, K: Sink>(
     if let Err(error) = tell_image(alloc, &mut streams, image, &rule.images) {
         return ended(streams, Status::from(error));
     }
-    match settings_for(alloc, &rule.settings, image, moment) {
-        Ok(settings) => decide(alloc, streams, settings),
+    match settings_for(alloc, &rule.settings.settings, image, moment) {
+        Ok(settings) => decide(alloc, streams, &mut rule.settings.client, settings),
         Err(_) => ended(streams, Status::WantOfMemory),
+    }
+}
+
+// The decision under the rule at this index, which is the first that covers the reference.
+fn decide_at<S: Source, K: Sink>(
+    alloc: Global,
+    streams: Streams<S, K>,
+    rules: &mut Vec<Rule<RuleClient>>,
+    at: usize,
+    moment: u64,
+    image: &Text,
+    reference: &Reference,
+) -> Judged<S, K>
+    requires first { IsFirstAt rules.old.items (place_of reference.now) at }
+    requires reads { reference_of image.now ≡ Ok reference.now }
+    ensures { Leads EndsEarly rules.old.items rules.new.items (λ before after v.
+        ByRule (rule_for before reference.now) (place_of reference.now) before after moment image.now v
+        (wire S.state K.state streams) (wire S.state K.state result.streams))
+        result.verdict (wire S.state K.state result.streams) }
+{
+    match rules.get_mut(at) {
+        Some(rule) => decide_under(alloc, streams, rule, moment, image),
+        None => ended(streams, Status::WantOfMemory),
     }
 }
 
@@ -82,18 +109,19 @@ fn deny<S, K>(streams: Streams<S, K>, cause: Denial) -> Judged<S, K>
 fn decide_reference<S: Source, K: Sink>(
     alloc: Global,
     streams: Streams<S, K>,
-    rules: &[Rule<LiveSettings>],
+    rules: &mut Vec<Rule<RuleClient>>,
     moment: u64,
     image: &Text,
     reference: &Reference,
 ) -> Judged<S, K>
     requires { reference_of image.now ≡ Ok reference.now }
-    ensures { Gives (λ v. ByRule (rule_for rules.now reference.now) moment image.now v
+    ensures { Leads EndsEarly rules.old.items rules.new.items (λ before after v.
+        ByRule (rule_for before reference.now) (place_of reference.now) before after moment image.now v
         (wire S.state K.state streams) (wire S.state K.state result.streams))
         result.verdict (wire S.state K.state result.streams) }
 {
-    match rule_for(alloc, rules, reference) {
-        Ok(Some(rule)) => decide_under(alloc, streams, rule, moment, image),
+    match index_for(alloc, rules.as_slice(), reference) {
+        Ok(Some(at)) => decide_at(alloc, streams, rules, at, moment, image, reference),
         Ok(None) => deny(streams, Denial::NoRule),
         Err(_) => ended(streams, Status::WantOfMemory),
     }
@@ -115,16 +143,17 @@ fn deny_text<S: Source, K: Sink>(
     }
 }
 
-/// Decides about an image under the first rule that covers it. Nothing is sent for a text that is not a reference, nor
-/// without a rule.
+/// Decides about an image under the first rule that covers it, by this rule's client. Nothing is sent for a text that is
+/// not a reference, nor without a rule.
 pub(crate) fn decide_image<S: Source, K: Sink>(
     alloc: Global,
     streams: Streams<S, K>,
-    rules: &[Rule<LiveSettings>],
+    rules: &mut Vec<Rule<RuleClient>>,
     moment: u64,
     image: &Text,
 ) -> Judged<S, K>
-    ensures { Gives (λ v. ImageDecided rules.now moment image.now v
+    ensures { Leads EndsEarly rules.old.items rules.new.items (λ before after v.
+        ImageDecided before after moment image.now v
         (wire S.state K.state streams) (wire S.state K.state result.streams))
         result.verdict (wire S.state K.state result.streams) }
 {

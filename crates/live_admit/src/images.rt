@@ -1,15 +1,18 @@
 // The decisions about the images of a review.
-ghost use Rattle.std.specs.Prelude.{◌≡◌, Err};
+ghost use Rattle.std.specs.Prelude.{◌≡◌, Err, IfOk, length};
 ghost use Rattle.live_host.specs.Wire.{wire};
-ghost use Rattle.live_admit.specs.Decided.{Gives, ImagesDecided};
+ghost use Rattle.live_documents.specs.Decided.{EndsEarly};
+ghost use Rattle.live_admit.specs.Clients.{Leads};
+ghost use Rattle.live_admit.specs.Decided.{ImagesDecided};
 
+use crate::clients::RuleClient;
 use crate::decision::Judged;
 use crate::image::decide_image;
 use admit_rules::Rule;
 use byte_streams::{Sink, Source};
 use json_values::List;
 use live_host::Streams;
-use live_pull::{LiveSettings, Status};
+use live_pull::Status;
 use pod_reviews::{PlacedImage, Verdict};
 use std::alloc::Global;
 
@@ -33,13 +36,15 @@ fn ended<S, K>(streams: Streams<S, K>, status: Status) -> AllJudged<S, K>
 pub(crate) fn decide_images<S: Source, K: Sink>(
     alloc: Global,
     streams: Streams<S, K>,
-    rules: &[Rule<LiveSettings>],
+    rules: &mut Vec<Rule<RuleClient>>,
     moment: u64,
     images: &[PlacedImage],
 ) -> AllJudged<S, K>
-    ensures { Gives (λ vs. ImagesDecided rules.now moment images.now vs
+    ensures decided { Leads EndsEarly rules.old.items rules.new.items (λ before after vs.
+        ImagesDecided before after moment images.now vs
         (wire S.state K.state streams) (wire S.state K.state result.streams))
         result.verdicts (wire S.state K.state result.streams) }
+    ensures each { IfOk result.verdicts (λ vs. length vs ≡ length images.now) }
 {
     let mut verdicts = List::new(alloc);
     let mut streams = streams;

@@ -2,6 +2,7 @@
 //! the review is sent.
 #![tactic(auto)]
 
+mod clients;
 mod decision;
 mod frames;
 mod image;

@@ -5,9 +5,11 @@ ghost use Rattle.pod_reviews.specs.Places.{pod_review_of};
 ghost use Rattle.live_host.specs.Wire.{wire, SendsFrame};
 ghost use Rattle.live_documents.specs.Decided.{EndsEarly};
 ghost use Rattle.live_admit.specs.Frames.{unreadable_head as head_of_none};
-ghost use Rattle.live_admit.specs.Served.{Answered, Continues, Done, ReadsReview, ReceivesReview, Responded};
+ghost use Rattle.live_admit.specs.Clients.{Leads};
+ghost use Rattle.live_admit.specs.Served.{Answered, Done, ReadsReview, ReceivesReview, Responded};
 ghost use Rattle.live_admit.specs.Served.{ResponseTold, Served, Stopped};
 
+use crate::clients::RuleClient;
 use crate::frames::{ReviewFrame, read_review_frame, response_head, unreadable_head};
 use crate::images::{AllJudged, decide_images};
 use admit_rules::Rule;
@@ -15,7 +17,7 @@ use byte_streams::{Sink, Source};
 use json_tables::ReadError;
 use json_values::{Json, List};
 use live_host::{Streams, hear, tell};
-use live_pull::{LiveSettings, Status};
+use live_pull::Status;
 use pod_reviews::{PodReview, Verdict, read_pod_review, respond_verdicts};
 use std::alloc::Global;
 
@@ -114,11 +116,12 @@ fn respond<S: Source, K: Sink>(
 fn answer_review<S: Source, K: Sink>(
     alloc: Global,
     streams: Streams<S, K>,
-    rules: &[Rule<LiveSettings>],
+    rules: &mut Vec<Rule<RuleClient>>,
     frame: &ReviewFrame,
     review: &PodReview,
 ) -> Step<S, K>
-    ensures { Done (Responded rules.now frame.now review.now
+    ensures { Leads EndsEarly rules.old.items rules.new.items (λ before after done.
+        Responded before after frame.now review.now
         (wire S.state K.state streams) (wire S.state K.state result.streams))
         result.outcome (wire S.state K.state result.streams) }
 {
@@ -150,10 +153,11 @@ fn answer_none<S: Source, K: Sink>(alloc: Global, streams: Streams<S, K>) -> Ste
 fn answer<S: Source, K: Sink>(
     alloc: Global,
     streams: Streams<S, K>,
-    rules: &[Rule<LiveSettings>],
+    rules: &mut Vec<Rule<RuleClient>>,
     frame: &ReviewFrame,
 ) -> Step<S, K>
-    ensures { Done (Answered rules.now frame.now (read_plain pod_review_of frame.now.review)
+    ensures { Leads EndsEarly rules.old.items rules.new.items (λ before after done.
+        Answered before after frame.now (read_plain pod_review_of frame.now.review)
         (wire S.state K.state streams) (wire S.state K.state result.streams))
         result.outcome (wire S.state K.state result.streams) }
 {
@@ -168,9 +172,10 @@ fn answer<S: Source, K: Sink>(
 pub(crate) fn serve_review<S: Source, K: Sink>(
     alloc: Global,
     streams: Streams<S, K>,
-    rules: &[Rule<LiveSettings>],
+    rules: &mut Vec<Rule<RuleClient>>,
 ) -> Step<S, K>
-    ensures { Continues (Served rules.now
+    ensures { Leads Stopped rules.old.items rules.new.items (λ before after done.
+        Served before after
         (wire S.state K.state streams) (wire S.state K.state result.streams))
         result.outcome (wire S.state K.state result.streams) }
 {

@@ -1,18 +1,22 @@
 // All reviews.
 ghost use Rattle.std.specs.Prelude.{◌≡◌};
 ghost use Rattle.live_host.specs.Wire.{wire};
-ghost use Rattle.live_admit.specs.Served.{Serves};
+ghost use Rattle.live_admit.specs.Clients.{AreIn, States};
+ghost use Rattle.live_admit.specs.Served.{Serves, ServesFrom};
 
+use crate::clients::{RuleClient, open_rules};
 use crate::review::{Step, serve_review};
 use crate::settings::AdmitSettings;
 use admit_rules::Rule;
 use byte_streams::{Sink, Source};
 use live_host::Streams;
-use live_pull::{Ended, LiveSettings, Status};
+use live_pull::{Ended, Status};
 use std::alloc::Global;
 
-// Dropped in a function without other facts.
+// Dropped in functions without other facts.
 fn drop_settings(_settings: AdmitSettings) {}
+
+fn drop_clients(_rules: Vec<Rule<RuleClient>>) {}
 
 fn end_with<S, K>(status: Status, streams: Streams<S, K>) -> Ended<S, K>
     ensures { result ≡ record { status = status; streams = streams } }
@@ -24,10 +28,10 @@ fn end_with<S, K>(status: Status, streams: Streams<S, K>) -> Ended<S, K>
 fn serve_each<S: Source, K: Sink>(
     alloc: Global,
     streams: Streams<S, K>,
-    rules: &[Rule<LiveSettings>],
+    rules: &mut Vec<Rule<RuleClient>>,
     reviews: u64,
 ) -> Ended<S, K>
-    ensures { Serves rules.now reviews result.status
+    ensures { (before : States) → AreIn rules.old.items before → ServesFrom before reviews result.status
         (wire S.state K.state streams) (wire S.state K.state result.streams) }
 {
     let mut streams = streams;
@@ -46,9 +50,27 @@ fn serve_each<S: Source, K: Sink>(
     end_with(Status::Pulled, streams)
 }
 
+// The same by these clients.
+fn serve_opened<S: Source, K: Sink>(
+    alloc: Global,
+    streams: Streams<S, K>,
+    rules: Vec<Rule<RuleClient>>,
+    reviews: u64,
+) -> Ended<S, K>
+    ensures { (before : States) → AreIn rules.items before → ServesFrom before reviews result.status
+        (wire S.state K.state streams) (wire S.state K.state result.streams) }
+{
+    let mut rules = rules;
+    let ended = serve_each(alloc, streams, &mut rules, reviews);
+    drop_clients(rules);
+    ended
+}
+
 /// Serves admission reviews after a frame `admit` was received: receives one frame `review` after another, decides
 /// about each image of the review under the first rule that covers it, as the frame `documents` does, and sends the
-/// response, until as many reviews were served as the settings say. Returns the exit status and the streams.
+/// response, until as many reviews were served as the settings say. Each rule has one client, which caches responses
+/// within bounds: what a search requested less than 60 seconds before is not requested again. Returns the exit status
+/// and the streams.
 pub fn serve_admit<S: Source, K: Sink>(
     alloc: Global,
     streams: Streams<S, K>,
@@ -57,7 +79,11 @@ pub fn serve_admit<S: Source, K: Sink>(
     ensures status { Serves settings.rules settings.reviews result.status
         (wire S.state K.state streams) (wire S.state K.state result.streams) }
 {
-    let ended = serve_each(alloc, streams, settings.rules.as_slice(), settings.reviews);
+    let reviews = settings.reviews;
+    let opened = open_rules(alloc, settings.rules.as_slice());
     drop_settings(settings);
-    ended
+    match opened {
+        Ok(rules) => serve_opened(alloc, streams, rules, reviews),
+        Err(_) => end_with(Status::WantOfMemory, streams),
+    }
 }

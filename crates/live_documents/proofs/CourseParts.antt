@@ -40,40 +40,40 @@ host_undecided P host.Unwritten new cause = cause
 host_undecided P host.WantOfMemory new cause = tt
 
 -- a decision
-pub finished_decides : (decide : Whole VerifiedDocuments) (k l : Kept) (old at : Wire) (r : Result VerifiedDocuments PullRefusal) → PulledBy decide old at k l r → Decides (FinishedBy NothingTold decide k old at) (Ok r) at
-finished_decides decide k l old at (Ok d) decision = record { decided_at = at; left = l; decision = decision; given = refl }
-finished_decides decide k l old at (Err e) decision = λ kept. record { decided_at = at; left = l; decision = decision kept; given = refl }
+pub finished_decides : (decide : Whole VerifiedDocuments) (k l : Kept) (old at : Wire) (r : Result VerifiedDocuments PullRefusal) → PulledBy decide old at k l r → Decides (FinishedBy NothingTold decide k l old at) (Ok r) at
+finished_decides decide k l old at (Ok d) decision = record { decided_at = at; decision = decision; given = refl }
+finished_decides decide k l old at (Err e) decision = λ kept. record { decided_at = at; decision = decision kept; given = refl }
 
 module _ {V : Type 0} {H : V → Type 0} (own : CustomVerdict V H) (terms : Terms V H) where
   -- by these terms
   pub finished_for : (logs : FinMap by_bytes (List ℕ)) (s : Settings) (answers : Answers) (found : TrustedLayers) (k l : Kept) (old at : Wire) (r : Result VerifiedDocuments PullRefusal)
-      → PulledBy (decide_for own terms logs s answers found) old at k l r → Decides (FinishedBy NothingTold (decide_for own terms logs s answers found) k old at) (Ok r) at
+      → PulledBy (decide_for own terms logs s answers found) old at k l r → Decides (FinishedBy NothingTold (decide_for own terms logs s answers found) k l old at) (Ok r) at
   finished_for logs s answers found k l old at r decision = finished_decides (decide_for own terms logs s answers found) k l old at r decision
 
   -- questions, and the decision under the answers
-  pub asked_decides : (logs : FinMap by_bytes (List ℕ)) (s : Settings) (answers : Answers) (found : TrustedLayers) (k : Kept) (old at new : Wire) (o : Result (Result VerifiedDocuments PullRefusal) Status)
-      → WereAsked answers.list old at → Decides (FinishedBy NothingTold (decide_for own terms logs s answers found) k at new) o new → Decides (AskedAndDecidedBy NothingTold (decide_for own terms logs s) k found old new) o new
-  asked_decides logs s answers found k old at new o questions decides =
-      decides_as {P = FinishedBy NothingTold (decide_for own terms logs s answers found) k at new} {Q = AskedAndDecidedBy NothingTold (decide_for own terms logs s) k found old new} o new
+  pub asked_decides : (logs : FinMap by_bytes (List ℕ)) (s : Settings) (answers : Answers) (found : TrustedLayers) (k l : Kept) (old at new : Wire) (o : Result (Result VerifiedDocuments PullRefusal) Status)
+      → WereAsked answers.list old at → Decides (FinishedBy NothingTold (decide_for own terms logs s answers found) k l at new) o new → Decides (AskedAndDecidedBy NothingTold (decide_for own terms logs s) k l found old new) o new
+  asked_decides logs s answers found k l old at new o questions decides =
+      decides_as {P = FinishedBy NothingTold (decide_for own terms logs s answers found) k l at new} {Q = AskedAndDecidedBy NothingTold (decide_for own terms logs s) k l found old new} o new
       (λ r h. record { asked_at = at; answers = answers; questions = questions; finished = h }) decides
 
   -- a search that found something, and what follows it, by a client that knows the same logs and has the same settings
-  pub course_found : (logs same_logs : FinMap by_bytes (List ℕ)) (s same : Settings) (k kept : Kept) (old at new : Wire) (found : TrustedLayers) (o : Result (Result VerifiedDocuments PullRefusal) Status)
+  pub course_found : (logs same_logs : FinMap by_bytes (List ℕ)) (s same : Settings) (k kept l : Kept) (old at new : Wire) (found : TrustedLayers) (o : Result (Result VerifiedDocuments PullRefusal) Status)
       → PulledBy (collect_for own terms logs s) old at k kept (Ok found) → same_logs ≡ logs → same ≡ s
-      → Decides (AskedAndDecidedBy NothingTold (decide_for own terms same_logs same) kept found at new) o new
-      → Decides (CourseBy NothingTold (collect_for own terms logs s) (decide_for own terms logs s) k old new) o new
-  course_found logs same_logs s same k kept old at new found o search is_logs is_settings decides =
-      decides_as {P = AskedAndDecidedBy NothingTold (decide_for own terms same_logs same) kept found at new} {Q = CourseBy NothingTold (collect_for own terms logs s) (decide_for own terms logs s) k old new} o new (λ r h. record {
+      → Decides (AskedAndDecidedBy NothingTold (decide_for own terms same_logs same) kept l found at new) o new
+      → Decides (CourseBy NothingTold (collect_for own terms logs s) (decide_for own terms logs s) k l old new) o new
+  course_found logs same_logs s same k kept l old at new found o search is_logs is_settings decides =
+      decides_as {P = AskedAndDecidedBy NothingTold (decide_for own terms same_logs same) kept l found at new} {Q = CourseBy NothingTold (collect_for own terms logs s) (decide_for own terms logs s) k l old new} o new (λ r h. record {
         searched_at = at;
         kept = kept;
         found = Ok found;
         search = search;
-        after = subst (λ (l : FinMap by_bytes (List ℕ)). AskedAndDecidedBy NothingTold (decide_for own terms l s) kept found at new r) is_logs
-            (subst (λ (x : Settings). AskedAndDecidedBy NothingTold (decide_for own terms same_logs x) kept found at new r) is_settings h);
+        after = subst (λ (logs : FinMap by_bytes (List ℕ)). AskedAndDecidedBy NothingTold (decide_for own terms logs s) kept l found at new r) is_logs
+            (subst (λ (x : Settings). AskedAndDecidedBy NothingTold (decide_for own terms same_logs x) kept l found at new r) is_settings h);
       }) decides
 
   -- a search that was refused
   pub course_refused : (logs : FinMap by_bytes (List ℕ)) (s : Settings) (k kept : Kept) (old at : Wire) (x : PullRefusal)
       → PulledBy (collect_for own terms logs s) old at k kept (Err x)
-      → Decides (CourseBy NothingTold (collect_for own terms logs s) (decide_for own terms logs s) k old at) (Ok (Err x)) at
-  course_refused logs s k kept old at x search = λ whole. record { searched_at = at; kept = kept; found = Err x; search = search whole; after = (refl, refl) }
+      → Decides (CourseBy NothingTold (collect_for own terms logs s) (decide_for own terms logs s) k kept old at) (Ok (Err x)) at
+  course_refused logs s k kept old at x search = λ whole. record { searched_at = at; kept = kept; found = Err x; search = search whole; after = (refl, refl, refl) }

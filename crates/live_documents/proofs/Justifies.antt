@@ -36,35 +36,44 @@ use Rattle.live_host.specs.declared.answers.Answers.{Answers}
 use Rattle.live_pull.specs.Justified.{Confined}
 use Rattle.live_pull.specs.Live.{Ends}
 use Rattle.live_pull.specs.Parts.{DeliversBy, Prepares}
-use Rattle.live_pull.specs.Pulls.{Transfer, context_of, meaning_of, trust_of}
+use Rattle.live_pull.specs.Pulls.{Transfer, client_settings, context_of, meaning_of, trust_of}
 use Rattle.live_pull.specs.declared.live.Prepared.{Prepared}
+use Rattle.live_pull.specs.declared.pulls.Terms.{Terms}
 use Rattle.live_pull.specs.declared.settings.LiveSettings.{LiveSettings}
 use Rattle.live_pull.specs.declared.status.Status.{Status}
 use Rattle.live_pull.specs.declared.status.Status.TheVariants as status
 use Rattle.live_pull.proofs.Policies.{policy_is}
 use Rattle.live_documents.specs.Course.{AfterSearchBy, CourseBy, DocumentsTold, Giving, NothingTold}
-use Rattle.live_documents.specs.Decided.{DecidedDocuments, Decides, EndsEarly}
+use Rattle.live_documents.specs.Decided.{DecidedDocuments, DecidedFrom, Decides, EndsEarly}
 use Rattle.live_documents.specs.Justified.{AfterJustified, DecisionJustified, FoundJustified, JustifiedBy}
 use Rattle.live_documents.specs.LiveDocuments.{LiveDocuments}
 use Rattle.live_documents.specs.Rows.{collect_for, collect_row, decide_for, decide_row, everyone_of}
+use Rattle.live_documents.specs.Terms.{AreTerms}
+use Rattle.live_documents.proofs.CourseParts.{decides_as}
 use Rattle.live_documents.proofs.RowsSame.{collected_same, decided_same}
 use Rattle.live_documents.proofs.Transfers.{IsKept, link_with, meets, shown_by}
 
 -- ---- the rows by these terms are those of the settings
 
-collect_is : {V : Type 0} {H : V → Type 0} (own : CustomVerdict V H) (settings : LiveSettings) (p : Prepared V H) → Prepares settings p
-    → collect_for own p.terms p.client.rekor_pub_keys (client_state p.client).settings ≡ collect_row settings (reference_in p.terms.image)
-collect_is {V} {H} own settings p (reads, auth, accepted, moment, keys, constraints, client, logs) =
-    rw (client, logs, moment, auth)
-    (ap (λ (policy : PullPolicy V H). collected (policy_context policy own (everyone settings.log_keys)) (context_of settings) (reference_in p.terms.image) settings.auth) (policy_is p.terms.policy settings keys constraints)
-    ∙ collected_same own settings.keys settings.constraints (everyone settings.log_keys) (context_of settings) (reference_in p.terms.image) settings.auth)
+-- the client of a decision has the settings, and the terms are theirs
+pub record ByTerms {V : Type 0} {H : V → Type 0} (settings : LiveSettings) (terms : Terms V H) (logs : FinMap by_bytes (List ℕ)) (s : Settings) : Type 0 where
+  pub terms_are : AreTerms settings terms
+  pub client : s ≡ client_settings settings
+  pub logs_are : logs ≡ settings.log_keys
 
-decide_is : {V : Type 0} {H : V → Type 0} (own : CustomVerdict V H) (settings : LiveSettings) (p : Prepared V H) (answers : Answers) (found : TrustedLayers) → Prepares settings p
-    → decide_for own p.terms p.client.rekor_pub_keys (client_state p.client).settings answers found ≡ decide_row settings (reference_in p.terms.image) answers found
-decide_is {V} {H} own settings p answers found (reads, auth, accepted, moment, keys, constraints, client, logs) =
-    rw (client, logs, moment, auth)
-    (ap (λ (policy : PullPolicy V H). decided (policy_context policy own (trust_of settings answers)) (context_of settings) (reference_in p.terms.image) settings.auth found) (policy_is p.terms.policy settings keys constraints)
-    ∙ decided_same own settings.keys settings.constraints (trust_of settings answers) (context_of settings) (reference_in p.terms.image) settings.auth found)
+collect_is : {V : Type 0} {H : V → Type 0} (own : CustomVerdict V H) (settings : LiveSettings) (terms : Terms V H) (logs : FinMap by_bytes (List ℕ)) (s : Settings) → ByTerms settings terms logs s
+    → collect_for own terms logs s ≡ collect_row settings (reference_in terms.image)
+collect_is {V} {H} own settings terms logs s by =
+    rw (by.client, by.logs_are, by.terms_are.moment, by.terms_are.auth)
+    (ap (λ (policy : PullPolicy V H). collected (policy_context policy own (everyone settings.log_keys)) (context_of settings) (reference_in terms.image) settings.auth) (policy_is terms.policy settings by.terms_are.keys by.terms_are.constraints)
+    ∙ collected_same own settings.keys settings.constraints (everyone settings.log_keys) (context_of settings) (reference_in terms.image) settings.auth)
+
+decide_is : {V : Type 0} {H : V → Type 0} (own : CustomVerdict V H) (settings : LiveSettings) (terms : Terms V H) (logs : FinMap by_bytes (List ℕ)) (s : Settings) (answers : Answers) (found : TrustedLayers) → ByTerms settings terms logs s
+    → decide_for own terms logs s answers found ≡ decide_row settings (reference_in terms.image) answers found
+decide_is {V} {H} own settings terms logs s answers found by =
+    rw (by.client, by.logs_are, by.terms_are.moment, by.terms_are.auth)
+    (ap (λ (policy : PullPolicy V H). decided (policy_context policy own (trust_of settings answers)) (context_of settings) (reference_in terms.image) settings.auth found) (policy_is terms.policy settings by.terms_are.keys by.terms_are.constraints)
+    ∙ decided_same own settings.keys settings.constraints (trust_of settings answers) (context_of settings) (reference_in terms.image) settings.auth found)
 
 -- ---- justified
 
@@ -101,118 +110,128 @@ module _ (Gives : Giving) (settings : LiveSettings) (image : Reference) (direct 
       shown_by (decide_row settings image answers found) (λ c. Within (pulling k.0 (context_of settings) image (Some settings.auth)) (context_of settings).settings l.0 c) old new k l r t
       (decided_confined (meaning_of settings answers) (context_of settings) image settings.auth found r direct (meets (decide_row settings image answers found) old new k l r kept t))
 
-  after_justified : (k : Kept) (found : Result TrustedLayers PullRefusal) (old new : Wire) (r : Result VerifiedDocuments PullRefusal) → IsKept r → (after : AfterSearchBy Gives (decide_row settings image) k found old new r) → AfterJustified Gives settings image k found old new r after
-  after_justified k (Ok found) old new r kept after = (
-    decision_justified after.answers found k after.finished.left after.asked_at after.finished.decided_at r kept after.finished.decision,
-    decision_confined after.answers found k after.finished.left after.asked_at after.finished.decided_at r kept after.finished.decision,
+  after_justified : (k l : Kept) (found : Result TrustedLayers PullRefusal) (old new : Wire) (r : Result VerifiedDocuments PullRefusal) → IsKept r → (after : AfterSearchBy Gives (decide_row settings image) k l found old new r) → AfterJustified Gives settings image k l found old new r after
+  after_justified k l (Ok found) old new r kept after = (
+    decision_justified after.answers found k l after.asked_at after.finished.decided_at r kept after.finished.decision,
+    decision_confined after.answers found k l after.asked_at after.finished.decided_at r kept after.finished.decision,
   )
-  after_justified k (Err e) old new r kept after = tt
+  after_justified k l (Err e) old new r kept after = tt
 
   -- the search did not run out of memory, since its error is the result
-  found_kept : (k : Kept) (found : Result TrustedLayers PullRefusal) (old new : Wire) (r : Result VerifiedDocuments PullRefusal) → IsKept r → AfterSearchBy Gives (decide_row settings image) k found old new r → IsKept found
-  found_kept k (Ok found) old new r kept after = tt
-  found_kept k (Err e) old new r kept after = rw after.0 at kept
+  found_kept : (k l : Kept) (found : Result TrustedLayers PullRefusal) (old new : Wire) (r : Result VerifiedDocuments PullRefusal) → IsKept r → AfterSearchBy Gives (decide_row settings image) k l found old new r → IsKept found
+  found_kept k l (Ok found) old new r kept after = tt
+  found_kept k l (Err e) old new r kept after = rw after.0 at kept
 
-  pub justified : (k : Kept) (old new : Wire) (r : Result VerifiedDocuments PullRefusal) → IsKept r → (course : CourseBy Gives (collect_row settings image) (decide_row settings image) k old new r) → JustifiedBy Gives settings image k old new r course
-  justified k old new r kept course =
-      let searched = found_kept course.kept course.found course.searched_at new r kept course.after in
+  pub justified : (k l : Kept) (old new : Wire) (r : Result VerifiedDocuments PullRefusal) → IsKept r → (course : CourseBy Gives (collect_row settings image) (decide_row settings image) k l old new r) → JustifiedBy Gives settings image k l old new r course
+  justified k l old new r kept course =
+      let searched = found_kept course.kept l course.found course.searched_at new r kept course.after in
       record {
         search = search_justified k course.kept old course.searched_at course.found searched course.search;
         confined = search_confined k course.kept old course.searched_at course.found searched course.search;
-        after = after_justified course.kept course.found course.searched_at new r kept course.after;
+        after = after_justified course.kept l course.found course.searched_at new r kept course.after;
       }
 
 -- ---- by the settings
 
-after_as : (decide same : Answers → TrustedLayers → Whole VerifiedDocuments) (k : Kept) (found : Result TrustedLayers PullRefusal) (old new : Wire) (r : Result VerifiedDocuments PullRefusal) → ((answers : Answers) (layers : TrustedLayers) → decide answers layers ≡ same answers layers)
-    → AfterSearchBy NothingTold decide k found old new r → AfterSearchBy NothingTold same k found old new r
-after_as decide same k (Ok found) old new r is after = record {
+after_as : (decide same : Answers → TrustedLayers → Whole VerifiedDocuments) (k l : Kept) (found : Result TrustedLayers PullRefusal) (old new : Wire) (r : Result VerifiedDocuments PullRefusal) → ((answers : Answers) (layers : TrustedLayers) → decide answers layers ≡ same answers layers)
+    → AfterSearchBy NothingTold decide k l found old new r → AfterSearchBy NothingTold same k l found old new r
+after_as decide same k l (Ok found) old new r is after = record {
   asked_at = after.asked_at;
   answers = after.answers;
   questions = after.questions;
   finished = record {
     decided_at = after.finished.decided_at;
-    left = after.finished.left;
-    decision = subst (λ (row : Whole VerifiedDocuments). Transfer row after.asked_at after.finished.decided_at k after.finished.left r) (is after.answers found) after.finished.decision;
+    decision = subst (λ (row : Whole VerifiedDocuments). Transfer row after.asked_at after.finished.decided_at k l r) (is after.answers found) after.finished.decision;
     given = after.finished.given;
   };
 }
-after_as decide same k (Err e) old new r is after = after
+after_as decide same k l (Err e) old new r is after = after
 
-course_as : (collect other : Whole TrustedLayers) (decide same : Answers → TrustedLayers → Whole VerifiedDocuments) (k : Kept) (old new : Wire) (r : Result VerifiedDocuments PullRefusal) → collect ≡ other → ((answers : Answers) (layers : TrustedLayers) → decide answers layers ≡ same answers layers)
-    → CourseBy NothingTold collect decide k old new r → CourseBy NothingTold other same k old new r
-course_as collect other decide same k old new r searches decides course = record {
+course_as : (collect other : Whole TrustedLayers) (decide same : Answers → TrustedLayers → Whole VerifiedDocuments) (k l : Kept) (old new : Wire) (r : Result VerifiedDocuments PullRefusal) → collect ≡ other → ((answers : Answers) (layers : TrustedLayers) → decide answers layers ≡ same answers layers)
+    → CourseBy NothingTold collect decide k l old new r → CourseBy NothingTold other same k l old new r
+course_as collect other decide same k l old new r searches decides course = record {
   searched_at = course.searched_at;
   kept = course.kept;
   found = course.found;
   search = subst (λ (row : Whole TrustedLayers). Transfer row old course.searched_at k course.kept course.found) searches course.search;
-  after = after_as decide same course.kept course.found course.searched_at new r decides course.after;
+  after = after_as decide same course.kept l course.found course.searched_at new r decides course.after;
 }
 
--- a course of a new client by these terms
-live : {V : Type 0} {H : V → Type 0} (own : CustomVerdict V H) (settings : LiveSettings) (p : Prepared V H) (old new : Wire) (r : Result VerifiedDocuments PullRefusal) → Prepares settings p → IsKept r
-    → CourseBy NothingTold (collect_for own p.terms p.client.rekor_pub_keys (client_state p.client).settings) (decide_for own p.terms p.client.rekor_pub_keys (client_state p.client).settings) (client_state p.client).kept old new r
-    → DecidedDocuments settings r old new
-live own settings p old new r prepares kept course =
-    let made = ap (λ (c : State). c.kept) prepares.6 in
-    let same = course_as (collect_for own p.terms p.client.rekor_pub_keys (client_state p.client).settings) (collect_row settings (reference_in p.terms.image))
-    (decide_for own p.terms p.client.rekor_pub_keys (client_state p.client).settings) (decide_row settings (reference_in p.terms.image)) (client_state p.client).kept old new r
-    (collect_is own settings p prepares) (λ answers found. decide_is own settings p answers found prepares) course in
-    let here : CourseBy NothingTold (collect_row settings (reference_in p.terms.image)) (decide_row settings (reference_in p.terms.image)) (fresh true) old new r =
-    subst (λ (k : Kept). CourseBy NothingTold (collect_row settings (reference_in p.terms.image)) (decide_row settings (reference_in p.terms.image)) k old new r) made same in
+-- a course by these terms
+decided_by : {V : Type 0} {H : V → Type 0} (own : CustomVerdict V H) (settings : LiveSettings) (terms : Terms V H) (logs : FinMap by_bytes (List ℕ)) (s : Settings) (k l : Kept) (old new : Wire) (r : Result VerifiedDocuments PullRefusal) → ByTerms settings terms logs s → IsKept r
+    → CourseBy NothingTold (collect_for own terms logs s) (decide_for own terms logs s) k l old new r → DecidedFrom settings k l r old new
+decided_by own settings terms logs s k l old new r by kept course =
+    let here = course_as (collect_for own terms logs s) (collect_row settings (reference_in terms.image)) (decide_for own terms logs s) (decide_row settings (reference_in terms.image)) k l old new r
+    (collect_is own settings terms logs s by) (λ answers found. decide_is own settings terms logs s answers found by) course in
     record {
-      image = reference_in p.terms.image;
-      reads = prepares.0;
+      image = reference_in terms.image;
+      reads = by.terms_are.image;
       course = here;
-      justified = justified NothingTold settings (reference_in p.terms.image) p.terms.image.direct (fresh true) old new r kept here;
+      justified = justified NothingTold settings (reference_in terms.image) terms.image.direct k l old new r kept here;
     }
 
 -- what was decided, by the settings
-pub live_decides : {V : Type 0} {H : V → Type 0} (own : CustomVerdict V H) (settings : LiveSettings) (p : Prepared V H) (old new : Wire) (o : Result (Result VerifiedDocuments PullRefusal) Status) → Prepares settings p
-    → Decides (CourseBy NothingTold (collect_for own p.terms p.client.rekor_pub_keys (client_state p.client).settings) (decide_for own p.terms p.client.rekor_pub_keys (client_state p.client).settings) (client_state p.client).kept old new) o new
+pub client_decides : {V : Type 0} {H : V → Type 0} (own : CustomVerdict V H) (settings : LiveSettings) (terms : Terms V H) (logs : FinMap by_bytes (List ℕ)) (s : Settings) (k l : Kept) (old new : Wire) (o : Result (Result VerifiedDocuments PullRefusal) Status) → ByTerms settings terms logs s
+    → Decides (CourseBy NothingTold (collect_for own terms logs s) (decide_for own terms logs s) k l old new) o new → Decides (λ r. DecidedFrom settings k l r old new) o new
+client_decides own settings terms logs s k l old new (Ok (Ok d)) by h = decided_by own settings terms logs s k l old new (Ok d) by tt h
+client_decides own settings terms logs s k l old new (Ok (Err e)) by h = λ kept. decided_by own settings terms logs s k l old new (Err e) by kept (h kept)
+client_decides own settings terms logs s k l old new (Err e) by h = h
+
+-- the same by a new client
+prepared_by : {V : Type 0} {H : V → Type 0} (settings : LiveSettings) (p : Prepared V H) → Prepares settings p → ByTerms settings p.terms p.client.rekor_pub_keys (client_state p.client).settings
+prepared_by settings p (reads, auth, accepted, moment, keys, constraints, client, logs) = record {
+  terms_are = record { image = reads; auth = auth; accepted = accepted; moment = moment; keys = keys; constraints = constraints };
+  client = ap (λ (c : State). c.settings) client;
+  logs_are = logs;
+}
+
+pub live_decides : {V : Type 0} {H : V → Type 0} (own : CustomVerdict V H) (settings : LiveSettings) (p : Prepared V H) (l : Kept) (old new : Wire) (o : Result (Result VerifiedDocuments PullRefusal) Status) → Prepares settings p
+    → Decides (CourseBy NothingTold (collect_for own p.terms p.client.rekor_pub_keys (client_state p.client).settings) (decide_for own p.terms p.client.rekor_pub_keys (client_state p.client).settings) (client_state p.client).kept l old new) o new
     → Decides (λ r. DecidedDocuments settings r old new) o new
-live_decides own settings p old new (Ok (Ok d)) prepares h = live own settings p old new (Ok d) prepares tt h
-live_decides own settings p old new (Ok (Err e)) prepares h = λ kept. live own settings p old new (Err e) prepares kept (h kept)
-live_decides own settings p old new (Err s) prepares h = h
+live_decides own settings p l old new o prepares h =
+    let made = ap (λ (c : State). c.kept) prepares.6 in
+    decides_as {P = λ r. DecidedFrom settings (client_state p.client).kept l r old new} {Q = λ r. DecidedDocuments settings r old new} o new
+    (λ r from. record { left = l; decided = subst (λ (k : Kept). DecidedFrom settings k l r old new) made from })
+    (client_decides own settings p.terms p.client.rekor_pub_keys (client_state p.client).settings (client_state p.client).kept l old new o (prepared_by settings p prepares) h)
 
 -- ---- what is sent afterwards
 
-after_given : (Gives : Giving) (decide : Answers → TrustedLayers → Whole VerifiedDocuments) (k : Kept) (found : Result TrustedLayers PullRefusal) (old at new : Wire) (r : Result VerifiedDocuments PullRefusal) → Gives r at new → AfterSearchBy NothingTold decide k found old at r → AfterSearchBy Gives decide k found old new r
-after_given Gives decide k (Ok found) old at new r given after = record {
+after_given : (Gives : Giving) (decide : Answers → TrustedLayers → Whole VerifiedDocuments) (k l : Kept) (found : Result TrustedLayers PullRefusal) (old at new : Wire) (r : Result VerifiedDocuments PullRefusal) → Gives r at new → AfterSearchBy NothingTold decide k l found old at r → AfterSearchBy Gives decide k l found old new r
+after_given Gives decide k l (Ok found) old at new r given after = record {
   asked_at = after.asked_at;
   answers = after.answers;
   questions = after.questions;
   finished = record {
     decided_at = after.finished.decided_at;
-    left = after.finished.left;
     decision = after.finished.decision;
     given = subst (λ (w : Wire). Gives r w new) (sym after.finished.given) given;
   };
 }
-after_given Gives decide k (Err e) old at new r given after = (after.0, subst (λ (w : Wire). Gives (Err e) w new) (sym after.1) (subst (λ (x : Result VerifiedDocuments PullRefusal). Gives x at new) after.0 given))
+after_given Gives decide k l (Err e) old at new r given after = (after.0, after.1, subst (λ (w : Wire). Gives (Err e) w new) (sym after.2) (subst (λ (x : Result VerifiedDocuments PullRefusal). Gives x at new) after.0 given))
 
-course_given : (Gives : Giving) (collect : Whole TrustedLayers) (decide : Answers → TrustedLayers → Whole VerifiedDocuments) (k : Kept) (old at new : Wire) (r : Result VerifiedDocuments PullRefusal) → Gives r at new → CourseBy NothingTold collect decide k old at r → CourseBy Gives collect decide k old new r
-course_given Gives collect decide k old at new r given course = record {
+course_given : (Gives : Giving) (collect : Whole TrustedLayers) (decide : Answers → TrustedLayers → Whole VerifiedDocuments) (k l : Kept) (old at new : Wire) (r : Result VerifiedDocuments PullRefusal) → Gives r at new → CourseBy NothingTold collect decide k l old at r → CourseBy Gives collect decide k l old new r
+course_given Gives collect decide k l old at new r given course = record {
   searched_at = course.searched_at;
   kept = course.kept;
   found = course.found;
   search = course.search;
-  after = after_given Gives decide course.kept course.found course.searched_at at new r given course.after;
+  after = after_given Gives decide course.kept l course.found course.searched_at at new r given course.after;
 }
 
-justified_given : (settings : LiveSettings) (image : Reference) (k : Kept) (old at new : Wire) (r : Result VerifiedDocuments PullRefusal) (given : DocumentsTold r at new) (course : CourseBy NothingTold (collect_row settings image) (decide_row settings image) k old at r) → JustifiedBy NothingTold settings image k old at r course → JustifiedBy DocumentsTold settings image k old new r (course_given DocumentsTold (collect_row settings image) (decide_row settings image) k old at new r given course)
+justified_given : (settings : LiveSettings) (image : Reference) (k l : Kept) (old at new : Wire) (r : Result VerifiedDocuments PullRefusal) (given : DocumentsTold r at new) (course : CourseBy NothingTold (collect_row settings image) (decide_row settings image) k l old at r) → JustifiedBy NothingTold settings image k l old at r course → JustifiedBy DocumentsTold settings image k l old new r (course_given DocumentsTold (collect_row settings image) (decide_row settings image) k l old at new r given course)
 unfolding after_given course_given
-justified_given settings image k old at new r given course h = record { search = h.search; confined = h.confined; after = by_found course.kept course.found course.searched_at course.after h.after } where
-  by_found : (kept : Kept) (found : Result TrustedLayers PullRefusal) (searched : Wire) (after : AfterSearchBy NothingTold (decide_row settings image) kept found searched at r) → AfterJustified NothingTold settings image kept found searched at r after → AfterJustified DocumentsTold settings image kept found searched new r (after_given DocumentsTold (decide_row settings image) kept found searched at new r given after)
+justified_given settings image k l old at new r given course h = record { search = h.search; confined = h.confined; after = by_found course.kept course.found course.searched_at course.after h.after } where
+  by_found : (kept : Kept) (found : Result TrustedLayers PullRefusal) (searched : Wire) (after : AfterSearchBy NothingTold (decide_row settings image) kept l found searched at r) → AfterJustified NothingTold settings image kept l found searched at r after → AfterJustified DocumentsTold settings image kept l found searched new r (after_given DocumentsTold (decide_row settings image) kept l found searched at new r given after)
   by_found kept (Ok found) searched after h = h
   by_found kept (Err e) searched after h = tt
 
 pub sent : (settings : LiveSettings) (old at new : Wire) (r : Result VerifiedDocuments PullRefusal) → DocumentsTold r at new → DecidedDocuments settings r old at → LiveDocuments settings r old new
 sent settings old at new r given h = record {
-  image = h.image;
-  reads = h.reads;
-  course = course_given DocumentsTold (collect_row settings h.image) (decide_row settings h.image) (fresh true) old at new r given h.course;
-  justified = justified_given settings h.image (fresh true) old at new r given h.course h.justified;
+  image = h.decided.image;
+  reads = h.decided.reads;
+  left = h.left;
+  course = course_given DocumentsTold (collect_row settings h.decided.image) (decide_row settings h.decided.image) (fresh true) h.left old at new r given h.decided.course;
+  justified = justified_given settings h.decided.image (fresh true) h.left old at new r given h.decided.course h.decided.justified;
 }
 
 -- how a pull ends whose result was sent

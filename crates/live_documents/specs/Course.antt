@@ -1,5 +1,6 @@
 -- The course of a live pull of documents: the search, the host's answers, the decision, and what is sent.
 use Rattle.std.specs.Prelude.{◌≡◌, List, [], ◌∷◌, ◌++◌, Result, Ok, Err}
+use Rattle.oci_transport.specs.declared.message.Exchange.{Exchange}
 use Rattle.registry_calls.specs.Clients.{Kept}
 use Rattle.cosign_documents.specs.declared.documents.VerifiedDocuments.{VerifiedDocuments}
 use Rattle.cosign_rows.specs.Verified.{Whole}
@@ -26,38 +27,52 @@ abbrev pub NothingTold : Giving
 NothingTold r old new = old ≡ new
 
 -- the decision, and what was sent for it
-pub record FinishedBy (Gives : Giving) (decide : Whole VerifiedDocuments) (k : Kept) (old new : Wire)
+pub record FinishedBy (Gives : Giving) (decide : Whole VerifiedDocuments) (k l : Kept) (old new : Wire)
     (r : Result VerifiedDocuments PullRefusal) : Type 0 where
   pub decided_at : Wire
-  pub left : Kept
-  pub decision : Transfer decide old decided_at k left r
+  pub decision : Transfer decide old decided_at k l r
   pub given : Gives r decided_at new
 
 -- the host was asked about the layers found, and its answers decided
-pub record AskedAndDecidedBy (Gives : Giving) (decide : Answers → TrustedLayers → Whole VerifiedDocuments) (k : Kept)
-    (found : TrustedLayers) (old new : Wire) (r : Result VerifiedDocuments PullRefusal) : Type 0 where
+pub record AskedAndDecidedBy (Gives : Giving) (decide : Answers → TrustedLayers → Whole VerifiedDocuments)
+    (k l : Kept) (found : TrustedLayers) (old new : Wire) (r : Result VerifiedDocuments PullRefusal) : Type 0 where
   pub asked_at : Wire
   pub answers : Answers
   pub questions : WereAsked answers.list old asked_at
-  pub finished : FinishedBy Gives (decide answers found) k asked_at new r
+  pub finished : FinishedBy Gives (decide answers found) k l asked_at new r
 
 -- what follows the search: its error was sent; or the host was asked, and the documents were decided on
-abbrev pub AfterSearchBy : Giving → (Answers → TrustedLayers → Whole VerifiedDocuments) → Kept
+abbrev pub AfterSearchBy : Giving → (Answers → TrustedLayers → Whole VerifiedDocuments) → Kept → Kept
     → Result TrustedLayers PullRefusal → Wire → Wire → Result VerifiedDocuments PullRefusal → Type 0
-AfterSearchBy Gives decide k (Ok found) old new r = AskedAndDecidedBy Gives decide k found old new r
-AfterSearchBy Gives decide k (Err e) old new r = (r ≡ Err e) × Gives (Err e) old new
+AfterSearchBy Gives decide k l (Ok found) old new r = AskedAndDecidedBy Gives decide k l found old new r
+AfterSearchBy Gives decide k l (Err e) old new r = (r ≡ Err e) × (l ≡ k) × Gives (Err e) old new
 
--- a search, and what follows it
+-- a search, and what follows it, by a client that kept `k` before and `l` afterwards
 pub record CourseBy (Gives : Giving) (collect : Whole TrustedLayers)
-    (decide : Answers → TrustedLayers → Whole VerifiedDocuments) (k : Kept) (old new : Wire)
+    (decide : Answers → TrustedLayers → Whole VerifiedDocuments) (k l : Kept) (old new : Wire)
     (r : Result VerifiedDocuments PullRefusal) : Type 0 where
   pub searched_at : Wire
   pub kept : Kept
   pub found : Result TrustedLayers PullRefusal
   pub search : Transfer collect old searched_at k kept found
-  pub after : AfterSearchBy Gives decide kept found searched_at new r
+  pub after : AfterSearchBy Gives decide kept l found searched_at new r
 
 -- the same, with documents or a refusal sent at its end
-abbrev pub Course : Whole TrustedLayers → (Answers → TrustedLayers → Whole VerifiedDocuments) → Kept → Wire → Wire
-    → Result VerifiedDocuments PullRefusal → Type 0
+abbrev pub Course : Whole TrustedLayers → (Answers → TrustedLayers → Whole VerifiedDocuments) → Kept → Kept → Wire
+    → Wire → Result VerifiedDocuments PullRefusal → Type 0
 Course = CourseBy DocumentsTold
+
+-- the exchanges of the decision, if there was one
+abbrev pub exchanges_after : (Gives : Giving) (decide : Answers → TrustedLayers → Whole VerifiedDocuments) (k l : Kept)
+    (found : Result TrustedLayers PullRefusal) (old new : Wire) (r : Result VerifiedDocuments PullRefusal)
+    → AfterSearchBy Gives decide k l found old new r → List Exchange
+exchanges_after Gives decide k l (Ok found) old new r after = after.finished.decision.conversation
+exchanges_after Gives decide k l (Err e) old new r after = []
+
+-- the exchanges of the search and of the decision
+abbrev pub exchanges_of : {Gives : Giving} {collect : Whole TrustedLayers}
+    {decide : Answers → TrustedLayers → Whole VerifiedDocuments} {k l : Kept} {old new : Wire}
+    {r : Result VerifiedDocuments PullRefusal} → CourseBy Gives collect decide k l old new r → List Exchange
+exchanges_of {Gives} {collect} {decide} {k} {l} {old} {new} {r} course =
+    course.search.conversation ++ exchanges_after Gives decide course.kept l course.found course.searched_at new r
+    course.after

@@ -38,26 +38,26 @@ DecisionJustified policy_context s image a found k l (Err e) old new =
     (n : ℕ) × Shown (λ c. DecidedCause policy_context s image a found (snapshot k 0) c (snapshot l n) e) old new
 
 -- what follows the search is justified, and confined
-abbrev pub AfterJustified : (Gives : Giving) (settings : LiveSettings) (image : Reference) (k : Kept)
+abbrev pub AfterJustified : (Gives : Giving) (settings : LiveSettings) (image : Reference) (k l : Kept)
     (found : Result TrustedLayers PullRefusal) (old new : Wire) (r : Result VerifiedDocuments PullRefusal)
-    → AfterSearchBy Gives (decide_row settings image) k found old new r → Type 0
-AfterJustified Gives settings image k (Ok found) old new r after =
-    DecisionJustified (meaning_of settings after.answers) (context_of settings) image settings.auth found k
-    after.finished.left r after.asked_at after.finished.decided_at
-    × Confined (context_of settings) image settings.auth k after.finished.left after.asked_at after.finished.decided_at
-AfterJustified Gives settings image k (Err e) old new r after = Unit {0}
+    → AfterSearchBy Gives (decide_row settings image) k l found old new r → Type 0
+AfterJustified Gives settings image k l (Ok found) old new r after =
+    DecisionJustified (meaning_of settings after.answers) (context_of settings) image settings.auth found k l r
+    after.asked_at after.finished.decided_at
+    × Confined (context_of settings) image settings.auth k l after.asked_at after.finished.decided_at
+AfterJustified Gives settings image k l (Err e) old new r after = Unit {0}
 
 -- both parts are justified, and confined
-pub record JustifiedBy (Gives : Giving) (settings : LiveSettings) (image : Reference) (k : Kept) (old new : Wire)
+pub record JustifiedBy (Gives : Giving) (settings : LiveSettings) (image : Reference) (k l : Kept) (old new : Wire)
     (r : Result VerifiedDocuments PullRefusal)
-    (course : CourseBy Gives (collect_row settings image) (decide_row settings image) k old new r) : Type 0 where
+    (course : CourseBy Gives (collect_row settings image) (decide_row settings image) k l old new r) : Type 0 where
   pub search : FoundJustified (everyone_of settings) (context_of settings) image settings.auth k course.kept
       course.found old course.searched_at
   pub confined : Confined (context_of settings) image settings.auth k course.kept old course.searched_at
-  pub after : AfterJustified Gives settings image course.kept course.found course.searched_at new r course.after
+  pub after : AfterJustified Gives settings image course.kept l course.found course.searched_at new r course.after
 
 -- the same, with documents or a refusal sent at its end
-abbrev pub Justified : (settings : LiveSettings) (image : Reference) (k : Kept) (old new : Wire)
+abbrev pub Justified : (settings : LiveSettings) (image : Reference) (k l : Kept) (old new : Wire)
     (r : Result VerifiedDocuments PullRefusal)
-    → Course (collect_row settings image) (decide_row settings image) k old new r → Type 0
+    → Course (collect_row settings image) (decide_row settings image) k l old new r → Type 0
 Justified = JustifiedBy DocumentsTold

@@ -2,6 +2,7 @@
 use Rattle.std.specs.Prelude.{◌≡◌, true, Result, Ok}
 use Rattle.oci_names.specs.Reference.{reference_of}
 use Rattle.oci_names.specs.declared.reference.Reference.{Reference}
+use Rattle.registry_calls.specs.Clients.{Kept}
 use Rattle.cosign_client.specs.Clients.{fresh}
 use Rattle.cosign_documents.specs.declared.documents.VerifiedDocuments.{VerifiedDocuments}
 use Rattle.cosign_rows.specs.declared.refusal.PullRefusal.{PullRefusal}
@@ -18,5 +19,6 @@ pub record LiveDocuments (settings : LiveSettings) (r : Result VerifiedDocuments
     : Type 0 where
   pub image : Reference
   pub reads : reference_of settings.reference ≡ Ok image
-  pub course : Course (collect_row settings image) (decide_row settings image) (fresh true) old new r
-  pub justified : Justified settings image (fresh true) old new r course
+  pub left : Kept
+  pub course : Course (collect_row settings image) (decide_row settings image) (fresh true) left old new r
+  pub justified : Justified settings image (fresh true) left old new r course

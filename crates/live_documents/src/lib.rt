@@ -7,4 +7,4 @@ mod live;
 mod parts;
 
 pub use delivery::{deliver_error, give_decided};
-pub use live::{Decided, search_and_decide, serve_documents};
+pub use live::{Decided, decide_again, search_and_decide, serve_documents};

@@ -1,21 +1,27 @@
 // A live pull of documents, from its settings to its end.
 ghost use Rattle.std.specs.Prelude.{◌≡◌, Ok, Err};
+ghost use Rattle.oci_names.specs.Reference.{reference_of};
+ghost use Rattle.registry_cache.specs.Auths.{registry_auth};
+ghost use Rattle.registry_calls.specs.Direct.{reference_in};
 ghost use Rattle.cosign_client.specs.State.{client_state};
+ghost use Rattle.recorded_case.specs.Policy.{constraints_by};
 ghost use Rattle.live_host.specs.Wire.{wire};
 ghost use Rattle.live_pull.specs.Live.{Ends};
 ghost use Rattle.live_pull.specs.Parts.{DeliversBy};
 ghost use Rattle.live_pull.specs.Settings.{IsReady};
 ghost use Rattle.live_documents.specs.Course.{AskedAndDecidedBy, CourseBy, DocumentsTold, FinishedBy, NothingTold};
-ghost use Rattle.live_documents.specs.Decided.{DecidedDocuments, Decides};
+ghost use Rattle.live_documents.specs.Decided.{DecidedDocuments, DecidedFrom, Decides, Suits};
 ghost use Rattle.live_documents.specs.LiveDocuments.{LiveDocuments};
 ghost use Rattle.live_documents.specs.Rows.{collect_for, decide_for};
+ghost use Rattle.live_documents.specs.Terms.{AreTerms};
 
 use crate::delivery::deliver;
 use crate::parts::{collect, decide};
 use byte_streams::{Sink, Source};
-use cosign_client::{PullRefusal, TrustedLayers, ask_for};
+use cosign_client::{Asked, Client, PullRefusal, TrustedLayers, ask_for};
 use cosign_documents::VerifiedDocuments;
-use cosign_layers::PullPolicy;
+use cosign_layers::{Constraint, PullPolicy};
+use json_values::List;
 use live_host::{Answers, Streams, ask_layers};
 use live_pull::{Ended, LiveSettings, Opened, Prepared, Status, Terms, open_settings};
 use recorded_case::constraints_from;
@@ -55,25 +61,21 @@ fn undecided<S, K>(status: Status, streams: Streams<S, K>) -> Decided<S, K>
 fn finish<S: Source, K: Sink>(
     alloc: Global,
     streams: Streams<S, K>,
-    prepared: &mut Prepared,
+    client: &mut Client,
+    terms: &Terms,
     answers: &Answers,
     found: TrustedLayers,
 ) -> Decided<S, K>
-    ensures { Decides (FinishedBy NothingTold
-        (decide_for (λ b. accepts (b.vtable, b.value)) prepared.old.terms prepared.old.client.rekor_pub_keys
-        (client_state prepared.old.client).settings answers.now found)
-        (client_state prepared.old.client).kept
+    ensures decided { Decides (FinishedBy NothingTold
+        (decide_for (λ b. accepts (b.vtable, b.value)) terms.now client.old.rekor_pub_keys
+        (client_state client.old).settings answers.now found)
+        (client_state client.old).kept (client_state client.new).kept
         (wire S.state K.state streams) (wire S.state K.state result.streams))
         result.outcome (wire S.state K.state result.streams) }
+    ensures settings { (client_state client.new).settings ≡ (client_state client.old).settings }
+    ensures log_keys { client.new.rekor_pub_keys ≡ client.old.rekor_pub_keys }
 {
-    let (streams, outcome) = decide(
-        alloc,
-        streams,
-        &mut prepared.client,
-        &prepared.terms,
-        answers,
-        found,
-    );
+    let (streams, outcome) = decide(alloc, streams, client, terms, answers, found);
     Decided {
         streams,
         outcome: Ok(outcome),
@@ -84,26 +86,29 @@ fn finish<S: Source, K: Sink>(
 fn ask_and_decide<S: Source, K: Sink>(
     alloc: Global,
     streams: Streams<S, K>,
-    prepared: &mut Prepared,
+    client: &mut Client,
+    terms: &Terms,
     found: TrustedLayers,
 ) -> Decided<S, K>
-    ensures { Decides (AskedAndDecidedBy NothingTold
-        (decide_for (λ b. accepts (b.vtable, b.value)) prepared.old.terms prepared.old.client.rekor_pub_keys
-        (client_state prepared.old.client).settings)
-        (client_state prepared.old.client).kept found
+    ensures decided { Decides (AskedAndDecidedBy NothingTold
+        (decide_for (λ b. accepts (b.vtable, b.value)) terms.now client.old.rekor_pub_keys
+        (client_state client.old).settings)
+        (client_state client.old).kept (client_state client.new).kept found
         (wire S.state K.state streams) (wire S.state K.state result.streams))
         result.outcome (wire S.state K.state result.streams) }
+    ensures settings { (client_state client.new).settings ≡ (client_state client.old).settings }
+    ensures log_keys { client.new.rekor_pub_keys ≡ client.old.rekor_pub_keys }
 {
     let mut streams = streams;
     let asked = ask_layers(
         alloc,
         &mut streams,
-        prepared.terms.policy.keys.as_slice(),
-        &prepared.client.rekor_pub_keys,
+        terms.policy.keys.as_slice(),
+        &client.rekor_pub_keys,
         found.collected.as_slice(),
     );
     match asked {
-        Ok(answers) => finish(alloc, streams, prepared, &answers, found),
+        Ok(answers) => finish(alloc, streams, client, terms, &answers, found),
         Err(error) => {
             drop_found(found);
             undecided(Status::from(error), streams)
@@ -115,20 +120,23 @@ fn ask_and_decide<S: Source, K: Sink>(
 fn converse<S: Source, K: Sink>(
     alloc: Global,
     streams: Streams<S, K>,
-    prepared: &mut Prepared,
+    client: &mut Client,
+    terms: &Terms,
 ) -> Decided<S, K>
-    ensures { Decides (CourseBy NothingTold
-        (collect_for (λ b. accepts (b.vtable, b.value)) prepared.old.terms prepared.old.client.rekor_pub_keys
-        (client_state prepared.old.client).settings)
-        (decide_for (λ b. accepts (b.vtable, b.value)) prepared.old.terms prepared.old.client.rekor_pub_keys
-        (client_state prepared.old.client).settings)
-        (client_state prepared.old.client).kept
+    ensures decided { Decides (CourseBy NothingTold
+        (collect_for (λ b. accepts (b.vtable, b.value)) terms.now client.old.rekor_pub_keys
+        (client_state client.old).settings)
+        (decide_for (λ b. accepts (b.vtable, b.value)) terms.now client.old.rekor_pub_keys
+        (client_state client.old).settings)
+        (client_state client.old).kept (client_state client.new).kept
         (wire S.state K.state streams) (wire S.state K.state result.streams))
         result.outcome (wire S.state K.state result.streams) }
+    ensures settings { (client_state client.new).settings ≡ (client_state client.old).settings }
+    ensures log_keys { client.new.rekor_pub_keys ≡ client.old.rekor_pub_keys }
 {
-    let (streams, found) = collect(alloc, streams, &mut prepared.client, &prepared.terms);
+    let (streams, found) = collect(alloc, streams, client, terms);
     match found {
-        Ok(found) => ask_and_decide(alloc, streams, prepared, found),
+        Ok(found) => ask_and_decide(alloc, streams, client, terms, found),
         Err(refusal) => Decided {
             streams,
             outcome: Ok(Err(refusal)),
@@ -173,9 +181,65 @@ pub fn search_and_decide<S: Source, K: Sink>(
         accepted,
         policy: PullPolicy { keys, constraints },
     };
-    let mut prepared = Prepared { client, terms };
-    let decided = converse(alloc, streams, &mut prepared);
-    drop_prepared(prepared);
+    let mut client = client;
+    let decided = converse(alloc, streams, &mut client, &terms);
+    drop_prepared(Prepared { client, terms });
+    decided
+}
+
+fn drop_terms(_terms: Terms) {}
+
+// The terms of a decision: of the settings, this image with these credentials, and these constraints.
+fn terms_from(asked: Asked, constraints: List<Constraint>, settings: LiveSettings) -> Terms
+    ensures { reference_of settings.reference ≡ Ok (reference_in asked.image)
+        → registry_auth asked.auth ≡ settings.auth
+        → constraints ≡ constraints_by settings.constraints → AreTerms settings result }
+{
+    let Asked {
+        image,
+        auth,
+        usual: _,
+    } = asked;
+    Terms {
+        moment: settings.moment,
+        image,
+        auth,
+        accepted: settings.accepted,
+        policy: PullPolicy {
+            keys: settings.keys,
+            constraints,
+        },
+    }
+}
+
+/// Does what `search_and_decide` does by a client that the caller keeps, which must have the settings and know the logs
+/// that `settings` states. What it has cached less than 60 seconds before the moment of these settings is not requested
+/// again; the documents are always requested. Returns the exit status in place of the result as `search_and_decide` does.
+pub fn decide_again<S: Source, K: Sink>(
+    alloc: Global,
+    streams: Streams<S, K>,
+    client: &mut Client,
+    settings: LiveSettings,
+) -> Decided<S, K>
+    requires { IsReady settings }
+    ensures decided { Suits settings client.old → Decides (λ r. DecidedFrom settings
+        (client_state client.old).kept (client_state client.new).kept r
+        (wire S.state K.state streams) (wire S.state K.state result.streams))
+        result.outcome (wire S.state K.state result.streams) }
+    ensures settings { (client_state client.new).settings ≡ (client_state client.old).settings }
+    ensures log_keys { client.new.rekor_pub_keys ≡ client.old.rekor_pub_keys }
+{
+    let asked = match ask_for(alloc, settings.reference.as_str(), &settings.auth) {
+        Ok(asked) => asked,
+        Err(_) => return undecided(Status::WantOfMemory, streams),
+    };
+    let constraints = match constraints_from(alloc, settings.constraints.as_slice()) {
+        Ok(constraints) => constraints,
+        Err(_) => return undecided(Status::WantOfMemory, streams),
+    };
+    let terms = terms_from(asked, constraints, settings);
+    let decided = converse(alloc, streams, client, &terms);
+    drop_terms(terms);
     decided
 }
 

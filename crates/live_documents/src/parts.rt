@@ -59,6 +59,8 @@ pub(crate) fn decide<S: Source, K: Sink>(
         (client_state client.old).settings answers.now found)
         (wire S.state K.state streams) (wire S.state K.state result.0)
         (client_state client.old).kept (client_state client.new).kept result.1 }
+    ensures settings { (client_state client.new).settings ≡ (client_state client.old).settings }
+    ensures log_keys { client.new.rekor_pub_keys ≡ client.old.rekor_pub_keys }
 {
     let Streams { source, sink } = streams;
     let mut transport = StreamTransport::new(source, sink);
