@@ -302,6 +302,24 @@ def pins_what_was_verified_when_a_tag_moves(live):
     return said["status"]["message"]
 
 
+def searches_an_image_once_a_minute(live):
+    """For a second Pod within a minute the document is requested alone."""
+    _, digest = signed(live, "once")
+    seen = []
+
+    def note(at):
+        seen.append(f"{at.command} {at.path}")
+        at.hand_on()
+    with door({"/": note}, live.place) as place, webhook(live, "once-hook", [rule_of(live, place)], "--jobs", "1") as server:
+        for _ in range(2):
+            server.allows(f"{place}/once:v1")
+            seen.append("")
+    asked = [line for line in seen if line != "GET /v2/"]
+    first, second = asked[:asked.index("")], asked[asked.index("") + 1:-1]
+    assert len(first) > 2 and second == [f"GET /v2/once/manifests/{digest}"], (first, second)
+    return f"{len(first)} requests, and then one"
+
+
 def shows_credentials_to_their_rule_alone(live):
     """Two registries with two passwords, and images of both in one Pod: each sees its own."""
     folder, seen = live.folder / "own", {"one": set(), "two": set()}
@@ -333,4 +351,4 @@ def shows_credentials_to_their_rule_alone(live):
 
 
 CASES = [admits_signed_images, admits_many_pods_at_once, admits_while_its_certificate_is_renewed, denies_what_a_killed_core_decided, denies_if_the_registry_is_down,
-         denies_bodies_that_are_cut_off, shows_credentials_to_their_rule_alone, pins_what_was_verified_when_a_tag_moves, admits_many_pods_in_a_row]
+         denies_bodies_that_are_cut_off, searches_an_image_once_a_minute, shows_credentials_to_their_rule_alone, pins_what_was_verified_when_a_tag_moves, admits_many_pods_in_a_row]

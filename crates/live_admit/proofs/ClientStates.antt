@@ -1,5 +1,5 @@
 -- The clients of the rules, and the states in which they are.
-use Rattle.std.proofs.Common.{◌≡◌, ◌<◌, ◌≤◌, ◌+◌, ℕ, zero, suc, true, false, Bool, List, [], ◌∷◌, ◌++◌, map, length, drop, slice_index_or, slice_set, Option, Some, None, Result, Ok, Err, refl, sym, ap, ◌∙◌, subst, append_assoc, append-nil, arith}
+use Rattle.std.proofs.Common.{◌≡◌, ◌<◌, ◌≤◌, ◌+◌, ℕ, zero, suc, true, false, Bool, List, [], ◌∷◌, ◌++◌, length, drop, slice_index_or, slice_set, Option, Some, None, Result, Ok, Err, refl, sym, ap, ◌∙◌, subst, append_assoc, append-nil}
 use Rattle.std.proofs.lemmas.List.{drop_all, drop_more}
 use Rattle.std.specs.FinMap.{get-empty}
 use Rattle.json_values.specs.Places.{by_bytes}
@@ -12,9 +12,7 @@ use Rattle.oci_engine.specs.Kept.{auth_state_of}
 use Rattle.oci_engine.specs.declared.client.Client.{Client as Engine}
 use Rattle.registry_calls.specs.Clients.{Client as Shown, Kept, none_kept}
 use Rattle.sig_registry.specs.States.{engine_state, with_few_tokens}
-use Rattle.registry_calls.specs.Log.{IsRun, IsBacked, LoggedCall}
 use Rattle.cosign_client.specs.State.{client_state}
-use Rattle.cache_laws.specs.Growth.{ExtendsLog}
 use Rattle.oci_names.specs.Reference.{reference_of}
 use Rattle.oci_names.specs.declared.parse_error.ParseError.{ParseError}
 use Rattle.oci_names.specs.declared.reference.Reference.{Reference}
@@ -28,7 +26,6 @@ use Rattle.live_host.specs.Wire.{Wire, SendsFrame}
 use Rattle.live_pull.specs.Pulls.{client_settings}
 use Rattle.live_pull.specs.declared.settings.LiveSettings.{LiveSettings}
 use Rattle.live_pull.specs.declared.status.Status.{Status}
-use Rattle.live_documents.specs.Course.{exchanges_of}
 use Rattle.live_documents.specs.Decided.{EndsEarly, Suits}
 use Rattle.live_documents.specs.Keeping.{IsWithin, StoresOnly}
 use Rattle.live_documents.proofs.Keeping.{decided_stores, decided_within}

@@ -1,5 +1,5 @@
 -- Images that are decided one after another.
-use Rattle.std.proofs.Common.{◌≡◌, ℕ, List, [], ◌∷◌, ◌++◌, length, suc, Result, Ok, Err, refl, sym, ap, subst, append_assoc, append-nil, arith}
+use Rattle.std.proofs.Common.{◌≡◌, ℕ, List, [], ◌∷◌, ◌++◌, length, Result, Ok, Err, refl, sym, subst, append_assoc, append-nil, arith}
 use Rattle.registry_calls.specs.Clients.{Kept}
 use Rattle.cosign_documents.specs.declared.documents.VerifiedDocuments.{VerifiedDocuments}
 use Rattle.cosign_rows.specs.declared.refusal.PullRefusal.{PullRefusal}

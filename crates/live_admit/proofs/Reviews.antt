@@ -1,5 +1,5 @@
 -- Reviews that are served one after another.
-use Rattle.std.proofs.Common.{◌≡◌, ℕ, ◌+◌, List, [], suc, Option, Some, None, Result, Ok, Err, refl, sym, subst, ◌∙◌, arith}
+use Rattle.std.proofs.Common.{◌≡◌, ℕ, ◌+◌, List, [], suc, Option, None, Result, Ok, Err, refl, sym, subst, ◌∙◌, arith}
 use Rattle.std.specs.Prelude.{⊤}
 use Rattle.admit_rules.specs.declared.rule.Rule.{Rule}
 use Rattle.json_tables.specs.Plain.{read_plain}

@@ -1,5 +1,5 @@
 -- The clients of the rules, and what they keep between reviews.
-use Rattle.std.specs.Prelude.{◌≡◌, List, [], ◌∷◌, map, Option, Some, Result, Ok, Err}
+use Rattle.std.specs.Prelude.{◌≡◌, List, [], ◌∷◌, map, Some, Result, Ok, Err}
 use Rattle.oci_auth.specs.AuthState.{fresh}
 use Rattle.oci_auth.specs.Cache.{bounded}
 use Rattle.registry_cache.specs.declared.answers.Bounds.{Bounds}

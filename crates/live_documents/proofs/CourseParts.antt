@@ -12,12 +12,9 @@ use Rattle.cosign_rows.specs.declared.refusal.PullRefusal.{PullRefusal}
 use Rattle.live_host.specs.Questions.{WereAsked}
 use Rattle.live_host.specs.Wire.{Wire}
 use Rattle.live_host.specs.declared.answers.Answers.{Answers}
-use Rattle.cosign_rows.specs.Refusal.{is_memory}
 use Rattle.live_host.specs.HostErrors.{HostCause}
 use Rattle.live_host.specs.declared.streams.HostError.{HostError}
 use Rattle.live_host.specs.declared.streams.HostError.TheVariants as host
-use Rattle.live_pull.specs.Live.{Ends}
-use Rattle.live_pull.specs.Parts.{DeliversBy}
 use Rattle.live_pull.specs.Status.{status_of}
 use Rattle.live_pull.specs.Terms.{PulledBy}
 use Rattle.live_pull.specs.declared.pulls.Terms.{Terms}

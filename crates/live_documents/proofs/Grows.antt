@@ -65,20 +65,20 @@ module _ (settings : Settings) (now : ℕ) where
   -- ---- the calls
 
   module _ (r : Reference) (a : RegistryAuth) where
-    digest : Grows (digest_call s r a)
-    digest = record { log = digest_grows settings now r a; bounds = λ bounds. digest_within bounds s r a }
+    digest_call_grows : Grows (digest_call s r a)
+    digest_call_grows = record { log = digest_grows settings now r a; bounds = λ bounds. digest_within bounds s r a }
 
-    manifest : Grows (manifest_call s r a)
-    manifest = record { log = manifest_grows settings now r a; bounds = λ bounds. manifest_within bounds s r a }
+    manifest_call_grows : Grows (manifest_call s r a)
+    manifest_call_grows = record { log = manifest_grows settings now r a; bounds = λ bounds. manifest_within bounds s r a }
 
-    image_of : (accepted : List (List ℕ)) → Grows (image_call s r a accepted)
-    image_of accepted = record { log = image_grows settings now r a accepted; bounds = λ bounds. image_within bounds s r a accepted }
+    image_call_grows : (accepted : List (List ℕ)) → Grows (image_call s r a accepted)
+    image_call_grows accepted = record { log = image_grows settings now r a accepted; bounds = λ bounds. image_within bounds s r a accepted }
 
-    referrers : Grows (referrers_call s r a None)
-    referrers = record { log = referrers_grow settings now r a None; bounds = λ bounds. referrers_within bounds s r a None }
+    referrers_call_grows : Grows (referrers_call s r a None)
+    referrers_call_grows = record { log = referrers_grow settings now r a None; bounds = λ bounds. referrers_within bounds s r a None }
 
-    document : Grows (document_call s r a manifest_types)
-    document = record { log = document_grows settings now r a manifest_types; bounds = λ bounds. document_within bounds s r a manifest_types }
+    document_call_grows : Grows (document_call s r a manifest_types)
+    document_call_grows = record { log = document_grows settings now r a manifest_types; bounds = λ bounds. document_within bounds s r a manifest_types }
 
   -- ---- the search
 
@@ -90,8 +90,8 @@ module _ (settings : Settings) (now : ℕ) where
       tag_grows : Grows (tag_layers trust d s (tag_reference image d) a)
       unfolding tag_layers
       tag_grows =
-          next _ _ (manifest (tag_reference image d) a) (λ document.
-          next _ _ (image_of (tag_reference image d) a (payload_type ∷ [])) (λ found. said _))
+          next _ _ (manifest_call_grows (tag_reference image d) a) (λ document.
+          next _ _ (image_call_grows (tag_reference image d) a (payload_type ∷ [])) (λ found. said _))
 
       tag_by_grows : (b : Bool) → Grows (tag_by trust d s (tag_reference image d) a b)
       tag_by_grows false = said _
@@ -103,7 +103,7 @@ module _ (settings : Settings) (now : ℕ) where
 
       referrer_by_grows : (x : List ℕ) (b : Bool) → Grows (referrer_by trust d s (digest_reference source x) a x b)
       referrer_by_grows x false = said _
-      referrer_by_grows x true = changed _ (λ r. or_skipped (Referrer x) (referrer_part trust d r)) (image_of (digest_reference source x) a (bundle_type ∷ []))
+      referrer_by_grows x true = changed _ (λ r. or_skipped (Referrer x) (referrer_part trust d r)) (image_call_grows (digest_reference source x) a (bundle_type ∷ []))
 
       referrers_row_grows : (xs : List ImageIndexEntry) → Grows (referrers_row trust d s source a xs)
       unfolding referrers_row referrer_row
@@ -118,12 +118,12 @@ module _ (settings : Settings) (now : ℕ) where
 
       referrers_source_grows : Grows (referrers_source trust d s source a)
       unfolding referrers_source
-      referrers_source_grows = after _ (listed_row trust d s source a) (referrers source a) listed_grows
+      referrers_source_grows = after _ (listed_row trust d s source a) (referrers_call_grows source a) listed_grows
 
     searched_grows : Grows (searched trust s image a)
     unfolding searched
     searched_grows =
-        next _ _ (digest image a) (λ d.
+        next _ _ (digest_call_grows image a) (λ d.
         next _ _ (said (reading_back (digest_reference image d))) (λ u.
         next _ _ (tag_source_grows d) (λ tag.
         next _ _ (referrers_source_grows d) (λ more. said _))))
@@ -139,13 +139,13 @@ module _ (settings : Settings) (now : ℕ) where
     manifest_row_grows first (Image manifest) = said _
     manifest_row_grows first (ImageIndex index) =
         next _ _ (said (with_error_context Pull (whole_text own) (entry_found s.settings.platform_resolver index.manifests))) (λ entry.
-        next _ _ (changed _ (λ r. with_image (whole_text own) r) (document (entry_reference own entry) a)) (λ found.
+        next _ _ (changed _ (λ r. with_image (whole_text own) r) (document_call_grows (entry_reference own entry) a)) (λ found.
         next _ _ (said (with_error_context Pull (whole_text own) (entry_in entry found.0))) (λ manifest. said _)))
 
     image_documents_grows : Grows (image_documents s image own a)
     unfolding image_documents
     image_documents_grows =
-        next _ _ (document own a) (λ found.
+        next _ _ (document_call_grows own a) (λ found.
         next _ _ (said (with_error_context Pull (whole_text own) (document_in image found.0))) (λ document.
         next _ _ (manifest_row_grows found.0 document) (λ chosen. said _)))
 

@@ -1,24 +1,19 @@
 -- A course by given terms is a live pull by the settings, and is justified.
-use Rattle.std.proofs.Common.{◌≡◌, ℕ, true, false, List, [], Option, Some, None, Result, Ok, Err, refl, sym, ap, ◌∙◌, subst}
+use Rattle.std.proofs.Common.{◌≡◌, ℕ, true, List, Some, None, Result, Ok, Err, sym, ap, ◌∙◌, subst}
 use Rattle.std.specs.FinMap.{FinMap}
 use Rattle.json_values.specs.Places.{by_bytes}
 use Rattle.oci_names.specs.declared.reference.Reference.{Reference}
 use Rattle.oci_names.specs.Reference.{mirror_of}
-use Rattle.oci_transport.specs.declared.message.Exchange.{Exchange}
 use Rattle.engine_rows.specs.Confined.{Within}
 use Rattle.engine_rows.specs.Held.{pulling}
-use Rattle.engine_terms.specs.Contexts.{within}
 use Rattle.engine_terms.specs.declared.settings.Settings.{Settings}
-use Rattle.registry_cache.specs.Auths.{registry_auth}
 use Rattle.registry_calls.specs.Clients.{Client as State, Kept}
 use Rattle.registry_calls.specs.Direct.{reference_in}
 use Rattle.cosign_client.specs.Clients.{fresh}
 use Rattle.cosign_client.specs.State.{client_state}
 use Rattle.cosign_layers.specs.Satisfying.{CustomVerdict, policy_context}
 use Rattle.cosign_layers.specs.declared.policy.PullPolicy.{PullPolicy}
-use Rattle.cosign_parts.specs.Trust.{Trust}
 use Rattle.cosign_documents.specs.declared.documents.VerifiedDocuments.{VerifiedDocuments}
-use Rattle.cosign_rows.specs.Refusal.{is_memory}
 use Rattle.cosign_rows.specs.Snapshots.{snapshot}
 use Rattle.cosign_rows.specs.Sound.{AnsweredOrFresh}
 use Rattle.cosign_rows.specs.Verified.{Whole}
@@ -51,7 +46,7 @@ use Rattle.live_documents.specs.Rows.{collect_for, collect_row, decide_for, deci
 use Rattle.live_documents.specs.Terms.{AreTerms}
 use Rattle.live_documents.proofs.CourseParts.{decides_as}
 use Rattle.live_documents.proofs.RowsSame.{collected_same, decided_same}
-use Rattle.live_documents.proofs.Transfers.{IsKept, link_with, meets, shown_by}
+use Rattle.live_documents.proofs.Transfers.{IsKept, meets, shown_by}
 
 -- ---- the rows by these terms are those of the settings
 

@@ -1,11 +1,10 @@
 -- What a client keeps after a decision: responses within the bounds that it had, and credentials that it stored before or
 -- those of the settings.
-use Rattle.std.proofs.Common.{◌≡◌, ◌⊎◌, inl, inr, ℕ, List, Option, Some, Result, Ok, Err, sym, ap, ◌∙◌, subst}
+use Rattle.std.proofs.Common.{◌≡◌, ◌⊎◌, inl, inr, Some, Result, Ok, Err, sym, subst}
 use Rattle.std.specs.FinMap as map
 use Rattle.oci_names.specs.Reference.{resolved_registry}
 use Rattle.oci_names.specs.declared.reference.Reference.{Reference}
 use Rattle.oci_auth.specs.declared.auth.RegistryAuth.{RegistryAuth}
-use Rattle.registry_cache.specs.declared.answers.Answers.{Answers}
 use Rattle.registry_cache.specs.declared.answers.Bounds.{Bounds}
 use Rattle.registry_calls.specs.Clients.{Kept}
 use Rattle.cosign_documents.specs.declared.documents.VerifiedDocuments.{VerifiedDocuments}

@@ -1,5 +1,5 @@
 -- A course extends the log of its client's calls, by calls that were made with its exchanges.
-use Rattle.std.proofs.Common.{◌≡◌, ℕ, List, [], ◌++◌, All, Result, Ok, Err, refl, sym, ap, ◌∙◌, append_assoc}
+use Rattle.std.proofs.Common.{ℕ, List, [], ◌++◌, Result, Ok, Err, sym, ap, ◌∙◌, append_assoc}
 use Rattle.std.proofs.lemmas.List.Elements.{All-append, All-weaker}
 use Rattle.oci_names.specs.declared.reference.Reference.{Reference}
 use Rattle.oci_transport.specs.declared.message.Exchange.{Exchange}
@@ -12,7 +12,7 @@ use Rattle.cosign_rows.specs.declared.refusal.PullRefusal.{PullRefusal}
 use Rattle.cache_laws.specs.Growth.{IsMadeIn, ExtendsLog}
 use Rattle.cache_laws.proofs.PartsInTurn.{as_it_was}
 use Rattle.live_host.specs.Wire.{Wire}
-use Rattle.live_pull.specs.Pulls.{client_settings, context_of, meaning_of}
+use Rattle.live_pull.specs.Pulls.{client_settings, meaning_of}
 use Rattle.live_pull.specs.declared.settings.LiveSettings.{LiveSettings}
 use Rattle.live_documents.specs.Course.{AfterSearchBy, CourseBy, NothingTold, exchanges_after, exchanges_of}
 use Rattle.live_documents.specs.Rows.{collect_row, decide_row, everyone_of}

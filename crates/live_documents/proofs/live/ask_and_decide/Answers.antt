@@ -1,5 +1,5 @@
 use Rattle.cosign_client.specs.State.{client_state}
-use Rattle.live_documents.proofs.CourseParts.{asked_decides, host_undecided}
+use Rattle.live_documents.proofs.CourseParts.{asked_decides}
 use Rattle.live_documents.proofs.live.ask_and_decide.Goals as goal
 
 pub returns-in-Ok-clause-decided : goal.returns-in-Ok-clause-decided

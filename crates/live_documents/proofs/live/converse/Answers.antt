@@ -1,4 +1,3 @@
-use Rattle.cosign_client.specs.State.{client_state}
 use Rattle.live_documents.proofs.CourseParts.{course_found, course_refused}
 use Rattle.live_documents.proofs.live.converse.Goals as goal
 
