@@ -1,6 +1,5 @@
 pub mod Ending
-pub mod FrameReads
-pub mod HeldBlob
-pub mod LastHeld
 pub mod Made
 pub mod Ready
+pub mod SentBytes
+pub mod Taken

@@ -1,10 +1,6 @@
 pub mod Carrying
-pub mod Delivery
 pub mod Ends
 pub mod Heads
-pub mod Held
-pub mod HeldState
-pub mod LastStood
 pub mod Opening
 pub mod Settings
-pub mod Steps
+pub mod SourcePieces

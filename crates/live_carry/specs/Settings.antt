@@ -1,50 +1,65 @@
 -- The settings of a carry.
-use Rattle.std.specs.Prelude.{◌⊎◌, ◌≤◌, ◌<◌, ℕ, List, [], ◌∷◌, length, Option, Some, IsOk, codes}
+use Rattle.std.specs.Prelude.{ℕ, Bool, false, ◌&&◌, ◌==◌, List, [], ◌∷◌, length, Option, Some, None, IsOk, bytes_eq, codes}
+use Rattle.std.specs.Char.{is_ascii_hexdigit}
+use Rattle.std.specs.List.{list_all}
 use Rattle.serde_json.specs.Data.{Data}
-use Rattle.json_tables.specs.Reading.{◌>>=◌, u32_of}
+use Rattle.json_tables.specs.Reading.{◌>>=◌, text_of, u64_of}
 use Rattle.json_tables.specs.Objects.{only}
-use Rattle.json_tables.specs.Member.{required}
-use Rattle.oci_descriptors.specs.declared.descriptor.OciDescriptor.{OciDescriptor}
-use Rattle.oci_manifests.specs.Manifest.{manifest_of}
-use Rattle.oci_manifests.specs.declared.manifest.OciImageManifest.{OciImageManifest}
+use Rattle.json_tables.specs.Member.{required, at_name}
+use Rattle.oci_digests.specs.Checks.{parts_of}
 use Rattle.oci_names.specs.Reference.{reference_of}
-use Rattle.blob_laws.specs.Blobs.{descriptors_of}
-use Rattle.blob_laws.specs.Cut.{size_of}
-use Rattle.image_blobs.specs.Taken.{IsAt}
+use Rattle.oci_auth.specs.declared.auth.RegistryAuth.TheVariants.{Anonymous}
+use Rattle.engine_terms.specs.declared.settings.ClientProtocol.TheVariants.{Https}
+use Rattle.recorded_case.specs.Auth.{auth_of}
+use Rattle.recorded_case.specs.Case.{reference_text_of, protocol_of}
+use Rattle.recorded_case.specs.Members.{passing, unless_absent}
 use Rattle.live_host.specs.Names.{frame_named}
-use Rattle.live_pull.specs.Settings.{IsReady, documents_of}
-use Rattle.live_copy.specs.Settings.{target_of}
 use Rattle.live_carry.specs.declared.settings.CarrySettings.{CarrySettings}
+use Rattle.live_carry.specs.declared.settings.TargetSettings.{TargetSettings}
+
+-- the members of a target
+abbrev pub target_members : List (List ℕ)
+target_members = codes "reference" ∷ codes "protocol" ∷ codes "auth" ∷ []
+
+-- A target, with no other members. They mean the same as those of a recorded case.
+unfoldable pub target_of : Data → Option TargetSettings
+target_of d = do
+  known ← only target_members d
+  reference ← required reference_text_of (codes "reference") d
+  protocol ← at_name (unless_absent Https protocol_of) (codes "protocol") d
+  auth ← at_name (unless_absent Anonymous auth_of) (codes "auth") d
+  Some (record { reference = reference; protocol = protocol; auth = auth })
+
+-- 64 hexadecimal digits
+abbrev pub are_digits : List ℕ → Bool
+are_digits digits = (length digits == 64) && list_all is_ascii_hexdigit digits
+
+abbrev pub is_hash : Option (List ℕ × List ℕ) → Bool
+is_hash None = false
+is_hash (Some parts) = bytes_eq parts.0 (codes "sha256") && are_digits parts.1
+
+-- `sha256:` and 64 hexadecimal digits
+abbrev pub is_sha256 : List ℕ → Bool
+is_sha256 text = is_hash (parts_of text)
+
+unfoldable pub digest_of : Data → Option (List ℕ)
+digest_of d = text_of d >>= passing is_sha256
 
 -- the members of the frame
 abbrev pub members : List (List ℕ)
-members = codes "settings" ∷ codes "target" ∷ codes "manifest" ∷ codes "index" ∷ codes "frame" ∷ []
+members = codes "target" ∷ codes "digest" ∷ codes "size" ∷ codes "moment" ∷ codes "frame" ∷ []
 
--- The frame `carry`, with no other members: a frame `documents` of the image, the target, the image's manifest, and the
--- index of the blob.
+-- The frame `carry`, with no other members: the target, the blob's digest and size, and the moment.
 unfoldable pub carry_of : Data → Option CarrySettings
 carry_of d = do
   known ← only members d
   name ← frame_named (codes "carry") d
-  index ← required u32_of (codes "index") d
   target ← required target_of (codes "target") d
-  manifest ← required manifest_of (codes "manifest") d
-  settings ← required documents_of (codes "settings") d
-  Some (record { settings = settings; target = target; manifest = manifest; index = index })
+  digest ← required digest_of (codes "digest") d
+  size ← required u64_of (codes "size") d
+  moment ← required u64_of (codes "moment") d
+  Some (record { target = target; digest = digest; size = size; moment = moment })
 
--- both references parse
+-- the target's reference parses
 abbrev pub AreReady : CarrySettings → Type 0
-AreReady settings = IsReady settings.settings × IsOk (reference_of settings.target.reference)
-
--- the greatest number of bytes of a blob that is carried: it is held in memory
-abbrev pub most_held : ℕ
-most_held = 134217728
-
--- the blob of the manifest at the index has this descriptor, which states at most as many bytes
-abbrev pub IsCarried : OciImageManifest → ℕ → OciDescriptor → Type 0
-IsCarried manifest index x = IsAt (descriptors_of manifest) index x × (size_of x ≤ most_held)
-
--- no blob has the index, or it may have more bytes
-abbrev pub IsNotCarried : OciImageManifest → ℕ → Type 0
-IsNotCarried manifest index = (length (descriptors_of manifest) ≤ index)
-    ⊎ ((x : OciDescriptor) × IsAt (descriptors_of manifest) index x × (most_held < size_of x))
+AreReady settings = IsOk (reference_of settings.target.reference)

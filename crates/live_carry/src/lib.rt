@@ -1,15 +1,14 @@
-//! One blob of an image that is carried to another registry with a host, unless that registry has it: pulled into
-//! memory, compared with its digest, and pushed.
+//! One blob that is pushed to a registry with a host, unless that registry has it: its bytes come from a second source,
+//! and are sent piece by piece as they come, under the digest that is computed from them.
 #![tactic(auto)]
 
 mod calls;
 mod delivery;
 mod heads;
-mod held;
 mod live;
 mod opening;
 mod settings;
-mod steps;
+mod source_pieces;
 
 pub use live::serve_carry;
-pub use settings::{CarrySettings, read_carry_settings};
+pub use settings::{CarrySettings, TargetSettings, read_carry_settings};

@@ -1,77 +1,62 @@
-// The clients of both registries.
-ghost use Rattle.std.specs.Prelude.{◌≡◌, IfOk, IsOk};
+// The client of the target.
+ghost use Rattle.std.specs.Prelude.{◌≡◌, Ok, IfOk, IsOk};
 ghost use Rattle.oci_names.specs.Reference.{reference_of};
-ghost use Rattle.live_blobs.specs.Opening.{Opens as OpensSource, Starts as StartsSource};
-ghost use Rattle.live_carry.specs.Opening.{Starts, StartsTarget};
+ghost use Rattle.live_carry.specs.Opening.{Opens, limit_of};
 ghost use Rattle.live_carry.specs.Settings.{AreReady};
 
 use crate::settings::CarrySettings;
 use json_values::Copied;
-use live_blobs::{
-    Opened as Source, Started as StartedSource, image_in, open as open_source,
-    start as start_source,
-};
-use live_copy::TargetSettings;
-use live_pull::LiveSettings;
 use oci_engine::{Client, ClientConfig};
-use oci_names::Reference;
+use oci_names::{ParseError, Reference};
 use std::alloc::{AllocError, Global};
 
-/// The target's client, and where in the target blobs are pushed to.
-#[derive(Drop)]
-pub(crate) struct Target {
-    pub client: Client,
-    pub into: Reference,
-}
+/// The number of bytes that a response may have whatever the blob's size.
+const LEAST_LIMIT: u64 = 1048576;
 
-/// What is allocated before the first request.
-#[derive(Drop)]
-pub(crate) struct Started {
-    pub source: StartedSource,
-    pub target: Target,
-}
-
-/// Both registries.
+/// The target's client, the repository that is pushed to, and when (in seconds since 1970).
 #[derive(Drop)]
 pub(crate) struct Opened {
-    pub source: Source,
-    pub target: Target,
+    pub client: Client,
+    pub into: Reference,
+    pub moment: u64,
 }
 
-// Returns a new client of the target, with the credentials of its registry.
-fn start_target(alloc: Global, target: &TargetSettings) -> Result<Target, AllocError>
-    requires { IsOk (reference_of target.now.reference) }
-    ensures { IfOk result (StartsTarget target.now) }
+// Returns the reference that a text parses as.
+fn image_in(alloc: Global, text: &str) -> Result<Reference, AllocError>
+    requires { IsOk (reference_of text.now) }
+    ensures { IfOk result (λ image. reference_of text.now ≡ Ok image) }
 {
-    let into = image_in(alloc, target.reference.as_str())?;
-    let protocol = target.protocol.copy(alloc)?;
+    match Reference::parse(alloc, text) {
+        Ok(image) => Ok(image),
+        Err(ParseError::WantOfMemory) => Err(AllocError),
+        Err(_) => unreachable!(),
+    }
+}
+
+fn limit_of(size: u64) -> u64
+    ensures { result ≡ limit_of size }
+{
+    if size < LEAST_LIMIT {
+        return LEAST_LIMIT;
+    }
+    size
+}
+
+/// Returns a new client of the target by these settings, with the credentials of its registry.
+pub(crate) fn open(alloc: Global, settings: &CarrySettings) -> Result<Opened, AllocError>
+    requires { AreReady settings.now }
+    ensures { IfOk result (Opens settings.now) }
+{
+    let into = image_in(alloc, settings.target.reference.as_str())?;
+    let protocol = settings.target.protocol.copy(alloc)?;
     let mut config = ClientConfig::default(alloc)?;
     config.protocol = protocol;
+    config.max_body_bytes = limit_of(settings.size);
     let mut client = Client::new(alloc, config);
-    client.store_auth_if_needed(into.resolve_registry(), &target.auth)?;
-    Ok(Target { client, into })
-}
-
-/// Allocates what a carry needs before its first request, and stores the credentials of both registries, each for its
-/// own.
-pub(crate) fn start(alloc: Global, settings: &CarrySettings) -> Result<Started, AllocError>
-    requires { AreReady settings.now }
-    ensures { IfOk result (Starts settings.now) }
-{
-    let source = start_source(alloc, &settings.settings)?;
-    let target = start_target(alloc, &settings.target)?;
-    Ok(Started { source, target })
-}
-
-/// Returns both registries, by the settings of the source.
-pub(crate) fn open(started: Started, settings: LiveSettings) -> Opened
-    requires { StartsSource settings started.source }
-    ensures source { OpensSource settings result.source }
-    ensures target { result.target ≡ started.target }
-{
-    let Started { source, target } = started;
-    Opened {
-        source: open_source(source, settings),
-        target,
-    }
+    client.store_auth_if_needed(into.resolve_registry(), &settings.target.auth)?;
+    Ok(Opened {
+        client,
+        into,
+        moment: settings.moment,
+    })
 }

@@ -1,51 +1,157 @@
 // The settings of a carry.
-ghost use Rattle.std.specs.Prelude.{IfOk};
+ghost use Rattle.std.specs.Prelude.{◌≡◌, IfOk};
+ghost use Rattle.std.specs.Char.{is_ascii_hexdigit};
+ghost use Rattle.std.specs.List.{list_all};
+ghost use Rattle.json_tables.specs.Member.{present};
 ghost use Rattle.serde_json.specs.View.{view};
 ghost use Rattle.json_tables.specs.Outcomes.{ReadsTo};
-ghost use Rattle.live_carry.specs.Settings.{carry_of, AreReady};
+ghost use Rattle.live_carry.specs.Settings.{AreReady, are_digits, carry_of, digest_of, is_sha256};
 
-use json_tables::{ReadError, only, required};
-use live_blobs::documents_in;
-use live_copy::TargetSettings;
+use engine_terms::ClientProtocol;
+use json_tables::{Member, ReadError, Reads, only, present, read_row};
+use json_values::{Text, row};
 use live_host::is_frame;
-use live_pull::LiveSettings;
-use oci_manifests::OciImageManifest;
+use oci_auth::RegistryAuth;
+use recorded_case::{OrUsual, ReferenceText};
 use serde_json::Value;
 use std::alloc::Global;
+use std::marker::Model;
+
+/// Where a copy goes: an object with one member for each field, of the field's name.
+#[derive(Drop)]
+pub struct TargetSettings {
+    /// A string that parses as a reference.
+    pub reference: Text,
+    /// `"http"` or `"https"`; `https` if the member is absent.
+    pub protocol: ClientProtocol,
+    /// `"anonymous"`, `{"basic": [user, password]}` or `{"bearer": token}`; anonymous if the member is absent.
+    pub auth: RegistryAuth,
+}
 
 /// Which blob is carried, and where to: the frame `carry`, with one member for each field, of the field's name.
 #[derive(Drop)]
 pub struct CarrySettings {
-    /// The frame `documents` of the image. Its reference, protocol, credentials, limit and moment matter here.
-    pub settings: LiveSettings,
     pub target: TargetSettings,
-    /// The image's manifest, as a JSON object.
-    pub manifest: OciImageManifest,
-    /// The index of the blob: 0 is the configuration, and the layers follow.
-    pub index: u32,
+    /// The blob's digest, `sha256:` and 64 hexadecimal digits.
+    pub digest: Text,
+    /// The greatest number of bytes that the blob may have.
+    pub size: u64,
+    /// When the blob is carried, in seconds since 1970.
+    pub moment: u64,
 }
 
-const NAMES: &[&str] = &["settings", "target", "manifest", "index", "frame"];
+const TARGET_NAMES: &[&str] = &["reference", "protocol", "auth"];
 
-// The settings in the frame `carry`.
-#[tactic(auto, unfolding(crate::specs::Settings::carry_of))]
-fn carry_settings(alloc: Global, value: &Value) -> Result<CarrySettings, ReadError>
-    ensures { ReadsTo result (carry_of (view value.now)) }
-{
-    only(value, NAMES)?;
-    if !is_frame(value, "carry") {
-        return Err(ReadError::Shape);
+const NAMES: &[&str] = &["target", "digest", "size", "moment", "frame"];
+
+type TargetMembers = (
+    ReferenceText,
+    (OrUsual<ClientProtocol>, (OrUsual<RegistryAuth>, ())),
+);
+
+impl Reads for TargetSettings {
+    ghost use Rattle.live_carry.specs.Settings.{target_of};
+
+    ghost reading = { target_of };
+
+    #[tactic(auto, unfolding(crate::specs::Settings::target_of))]
+    fn read_value(alloc: Global, value: &Value) -> Result<TargetSettings, ReadError> {
+        only(value, TARGET_NAMES)?;
+        let row![reference, protocol, auth]: TargetMembers = read_row::<TargetSettings, _>(
+            alloc,
+            value,
+            TARGET_NAMES,
+        )?;
+        Ok(TargetSettings {
+            reference: reference.text,
+            protocol: protocol.value,
+            auth: auth.value,
+        })
     }
-    let index = required(alloc, value, "index")?;
-    let target = required(alloc, value, "target")?;
-    let manifest = required(alloc, value, "manifest")?;
-    let settings = documents_in(alloc, value)?;
-    Ok(CarrySettings {
-        settings,
-        target,
-        manifest,
-        index,
-    })
+}
+
+impl Member for TargetSettings {
+    ghost use Rattle.live_carry.specs.Settings.{target_of};
+
+    ghost found = { present target_of };
+
+    fn read_member(alloc: Global, member: Option<&Value>) -> Result<TargetSettings, ReadError> {
+        present(alloc, member)
+    }
+}
+
+// A SHA-256 digest. A contract sees its text.
+#[derive(Drop)]
+struct DigestText {
+    text: Text,
+}
+
+impl Model for DigestText {
+    ghost use Rattle.std.specs.Prelude.{ℕ, List};
+
+    ghost Value = { List ℕ };
+
+    ghost view = { λ digest. digest.text };
+}
+
+fn are_hexadecimal(digits: &[u8]) -> bool
+    ensures { result ≡ list_all is_ascii_hexdigit digits.now }
+{
+    digits.iter().all(|b| b.is_ascii_hexdigit())
+}
+
+fn are_digits(digits: &[u8]) -> bool
+    ensures { result ≡ are_digits digits.now }
+{
+    digits.len() == 64 && are_hexadecimal(digits)
+}
+
+// Returns whether the text is `sha256:` and 64 hexadecimal digits.
+fn is_sha256(text: &str) -> bool
+    ensures { result ≡ is_sha256 text.now }
+{
+    match text.split_once(':') {
+        Some((algorithm, digits)) => algorithm == "sha256" && are_digits(digits.as_bytes()),
+        None => false,
+    }
+}
+
+impl Member for DigestText {
+    ghost found = { present digest_of };
+
+    #[tactic(auto, unfolding(crate::specs::Settings::digest_of))]
+    fn read_member(alloc: Global, member: Option<&Value>) -> Result<DigestText, ReadError> {
+        let text: Text = present(alloc, member)?;
+        if !is_sha256(text.as_str()) {
+            return Err(ReadError::Shape);
+        }
+        Ok(DigestText { text })
+    }
+}
+
+type CarryMembers = (TargetSettings, (DigestText, (u64, (u64, ()))));
+
+impl Reads for CarrySettings {
+    ghost use Rattle.live_carry.specs.Settings.{carry_of};
+
+    ghost reading = { carry_of };
+
+    #[tactic(auto, unfolding(crate::specs::Settings::carry_of))]
+    fn read_value(alloc: Global, value: &Value) -> Result<CarrySettings, ReadError> {
+        only(value, NAMES)?;
+        if !is_frame(value, "carry") {
+            return Err(ReadError::Shape);
+        }
+        let row![target, digest, size, moment]: CarryMembers = read_row::<CarrySettings, _>(
+            alloc, value, NAMES,
+        )?;
+        Ok(CarrySettings {
+            target,
+            digest: digest.text,
+            size,
+            moment,
+        })
+    }
 }
 
 /// Reads the settings of a carry. Returns `Shape` if and only if the value is not a frame `carry` with the members of
@@ -54,6 +160,6 @@ pub fn read_carry_settings(alloc: Global, value: &Value) -> Result<CarrySettings
     ensures exact { ReadsTo result (carry_of (view value.now)) }
     ensures ready { IfOk result AreReady }
 {
-    let settings = carry_settings(alloc, value)?;
+    let settings: CarrySettings = Reads::read_value(alloc, value)?;
     Ok(settings)
 }

@@ -3,30 +3,12 @@ use Rattle.std.specs.Prelude.{ℕ, List, [], ◌∷◌, Option, Some, IsOk, code
 use Rattle.serde_json.specs.Data.{Data}
 use Rattle.json_tables.specs.Reading.{◌>>=◌, bool_of}
 use Rattle.json_tables.specs.Objects.{only}
-use Rattle.json_tables.specs.Member.{required, at_name}
+use Rattle.json_tables.specs.Member.{required}
 use Rattle.oci_names.specs.Reference.{reference_of}
-use Rattle.oci_auth.specs.declared.auth.RegistryAuth.TheVariants.{Anonymous}
-use Rattle.engine_terms.specs.declared.settings.ClientProtocol.TheVariants.{Https}
-use Rattle.recorded_case.specs.Auth.{auth_of}
-use Rattle.recorded_case.specs.Case.{reference_text_of, protocol_of}
-use Rattle.recorded_case.specs.Members.{unless_absent}
 use Rattle.live_host.specs.Names.{frame_named}
 use Rattle.live_pull.specs.Settings.{IsReady, documents_of}
+use Rattle.live_carry.specs.Settings.{target_of}
 use Rattle.live_copy.specs.declared.settings.CopySettings.{CopySettings}
-use Rattle.live_copy.specs.declared.settings.TargetSettings.{TargetSettings}
-
--- the members of a target
-abbrev pub target_members : List (List ℕ)
-target_members = codes "reference" ∷ codes "protocol" ∷ codes "auth" ∷ []
-
--- A target, with no other members. They mean the same as those of a recorded case.
-unfoldable pub target_of : Data → Option TargetSettings
-target_of d = do
-  known ← only target_members d
-  reference ← required reference_text_of (codes "reference") d
-  protocol ← at_name (unless_absent Https protocol_of) (codes "protocol") d
-  auth ← at_name (unless_absent Anonymous auth_of) (codes "auth") d
-  Some (record { reference = reference; protocol = protocol; auth = auth })
 
 -- the members of the frame
 abbrev pub members : List (List ℕ)

@@ -11,4 +11,4 @@ mod settings;
 mod tags;
 
 pub use live::serve_copy;
-pub use settings::{CopySettings, TargetSettings, read_copy_settings};
+pub use settings::{CopySettings, read_copy_settings};

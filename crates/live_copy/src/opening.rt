@@ -3,9 +3,10 @@ ghost use Rattle.std.specs.Prelude.{IfOk};
 ghost use Rattle.live_copy.specs.Opening.{Opens};
 ghost use Rattle.live_copy.specs.Settings.{AreReady};
 
-use crate::settings::{CopySettings, TargetSettings};
+use crate::settings::CopySettings;
 use cosign_client::{Asked, ask_for};
 use json_values::Copied;
+use live_carry::TargetSettings;
 use oci_engine::Client;
 use pull_mirror::CopyTarget;
 use std::alloc::{AllocError, Global};

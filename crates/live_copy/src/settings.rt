@@ -6,26 +6,12 @@ ghost use Rattle.json_tables.specs.Outcomes.{ReadsTo};
 ghost use Rattle.live_pull.specs.Settings.{documents_of};
 ghost use Rattle.live_copy.specs.Settings.{copy_of, AreReady};
 
-use engine_terms::ClientProtocol;
-use json_tables::{ReadError, Reads, only, read_row, required};
-use json_values::{Text, row};
+use json_tables::{ReadError, only, required};
+use live_carry::TargetSettings;
 use live_host::is_frame;
 use live_pull::{LiveSettings, read_document_settings};
-use oci_auth::RegistryAuth;
-use recorded_case::{OrUsual, ReferenceText};
 use serde_json::Value;
 use std::alloc::Global;
-
-/// Where documents are copied to: an object with one member for each field, of the field's name.
-#[derive(Drop)]
-pub struct TargetSettings {
-    /// A string that parses as a reference.
-    pub reference: Text,
-    /// `"http"` or `"https"`; `https` if the member is absent.
-    pub protocol: ClientProtocol,
-    /// `"anonymous"`, `{"basic": [user, password]}` or `{"bearer": token}`; anonymous if the member is absent.
-    pub auth: RegistryAuth,
-}
 
 /// What to copy, under which policy, and where: the frame `copy`, with one member for each field, of the field's name.
 #[derive(Drop)]
@@ -39,35 +25,7 @@ pub struct CopySettings {
     pub tag: bool,
 }
 
-const TARGET_NAMES: &[&str] = &["reference", "protocol", "auth"];
-
 const NAMES: &[&str] = &["settings", "target", "replace", "tag", "frame"];
-
-type TargetMembers = (
-    ReferenceText,
-    (OrUsual<ClientProtocol>, (OrUsual<RegistryAuth>, ())),
-);
-
-impl Reads for TargetSettings {
-    ghost use Rattle.live_copy.specs.Settings.{target_of};
-
-    ghost reading = { target_of };
-
-    #[tactic(auto, unfolding(crate::specs::Settings::target_of))]
-    fn read_value(alloc: Global, value: &Value) -> Result<TargetSettings, ReadError> {
-        only(value, TARGET_NAMES)?;
-        let row![reference, protocol, auth]: TargetMembers = read_row::<TargetSettings, _>(
-            alloc,
-            value,
-            TARGET_NAMES,
-        )?;
-        Ok(TargetSettings {
-            reference: reference.text,
-            protocol: protocol.value,
-            auth: auth.value,
-        })
-    }
-}
 
 // The frame `documents` in the member `settings`.
 fn documents_in(alloc: Global, value: &Value) -> Result<LiveSettings, ReadError>

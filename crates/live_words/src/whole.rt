@@ -54,24 +54,25 @@ fn begin<S: Source, K: Sink>(
 }
 
 // What the first frame asks for.
-fn serve_first<S: Source, K: Sink>(
+fn serve_first<S: Source, K: Sink, B: Source>(
     alloc: Global,
     streams: Streams<S, K>,
+    bytes: B,
     first: FirstFrame,
-) -> Ended<S, K>
+) -> (Ended<S, K>, B)
     requires { IsFirstReady first }
-    ensures { Serves first result.status
-        (wire S.state K.state streams) (wire S.state K.state result.streams) }
+    ensures { Serves first result.0.status (B.state bytes) (B.state result.1)
+        (wire S.state K.state streams) (wire S.state K.state result.0.streams) }
 {
     match first {
-        FirstFrame::Image(settings) => serve(alloc, streams, settings),
-        FirstFrame::Documents(settings) => serve_documents(alloc, streams, settings),
-        FirstFrame::Lock(settings) => serve_lock(alloc, streams, settings),
-        FirstFrame::Blobs(settings) => serve_blobs(alloc, streams, settings),
-        FirstFrame::Copy(settings) => serve_copy(alloc, streams, settings),
-        FirstFrame::Carry(settings) => serve_carry(alloc, streams, settings),
-        FirstFrame::Check(settings) => serve_check(alloc, streams, settings),
-        FirstFrame::Admit(settings) => serve_admit(alloc, streams, settings),
+        FirstFrame::Image(settings) => (serve(alloc, streams, settings), bytes),
+        FirstFrame::Documents(settings) => (serve_documents(alloc, streams, settings), bytes),
+        FirstFrame::Lock(settings) => (serve_lock(alloc, streams, settings), bytes),
+        FirstFrame::Blobs(settings) => (serve_blobs(alloc, streams, settings), bytes),
+        FirstFrame::Copy(settings) => (serve_copy(alloc, streams, settings), bytes),
+        FirstFrame::Carry(settings) => serve_carry(alloc, streams, bytes, settings),
+        FirstFrame::Check(settings) => (serve_check(alloc, streams, settings), bytes),
+        FirstFrame::Admit(settings) => (serve_admit(alloc, streams, settings), bytes),
     }
 }
 
@@ -82,14 +83,19 @@ fn end_with<S, K>(status: Status, streams: Streams<S, K>) -> Ended<S, K>
 }
 
 /// Does what a host asks for, which opens the connections, verifies signatures and supplies the time: receives the first
-/// frame, does what it asks for, and sends the result. Returns the exit status and the streams.
-pub fn run<S: Source, K: Sink>(alloc: Global, streams: Streams<S, K>) -> Ended<S, K>
-    ensures status { CoreMeans result.status
-        (wire S.state K.state streams) (wire S.state K.state result.streams) }
+/// frame, does what it asks for, and sends the result. Returns the exit status with the streams, and the second source,
+/// which only a carry reads.
+pub fn run<S: Source, K: Sink, B: Source>(
+    alloc: Global,
+    streams: Streams<S, K>,
+    bytes: B,
+) -> (Ended<S, K>, B)
+    ensures status { CoreMeans result.0.status (B.state bytes) (B.state result.1)
+        (wire S.state K.state streams) (wire S.state K.state result.0.streams) }
 {
     let mut streams = streams;
     match begin(alloc, &mut streams) {
-        Ok(first) => serve_first(alloc, streams, first),
-        Err(status) => end_with(status, streams),
+        Ok(first) => serve_first(alloc, streams, bytes, first),
+        Err(status) => (end_with(status, streams), bytes),
     }
 }

@@ -1,6 +1,9 @@
-//! The program: `run` of `live_words` over standard input and output.
+//! The program: `run` of `live_words` over standard input and output, and descriptor 3.
 #![tactic(auto)]
 
+mod descriptor;
+
+use crate::descriptor::Descriptor;
 pub use byte_streams::{StdSink, StdSource};
 pub use live_host::Streams;
 pub use live_pull::{Ended, Status};
@@ -23,7 +26,7 @@ fn main(rt: HostRuntime) -> ExitCode {
         source: StdSource::new(rt.stdin()),
         sink: StdSink::new(rt.stdout()),
     };
-    let ended = run(rt.alloc(), streams);
+    let (ended, _bytes) = run(rt.alloc(), streams, Descriptor::new(&rt));
     let status = ended.status.code();
     if status > 1 {
         // The exit status says it too, so nothing is lost if the line cannot be written.

@@ -1,6 +1,6 @@
 use Rattle.json_tables.proofs.Refusals.{passed_on, behind}
-use Rattle.live_copy.specs.Settings.{target_of}
-use Rattle.live_copy.proofs.settings.TargetSettingsReads.read_value.Goals as goal
+use Rattle.live_carry.specs.Settings.{target_of}
+use Rattle.live_carry.proofs.settings.TargetSettingsReads.read_value.Goals as goal
 
 pub returns-in_err-reference : goal.returns-in_err-reference
 unfolding target_of
