@@ -10,7 +10,7 @@ from pathlib import Path
 
 sys.dont_write_bytecode = True
 from figures import Figure, page  # noqa: E402
-from pulls import MIB, ROUNDS, TOP, most_held, stored, timed  # noqa: E402
+from pulls import MIB, MOST, ROUNDS, TOP, most_held, stored, timed  # noqa: E402
 from registry import Registry, ephemeral, make_layout, ran, sign  # noqa: E402
 
 SIZES = [64] * 4  # MiB
@@ -58,7 +58,7 @@ def figures():
     yield Figure("a copy of an image of four of 64 MiB", statistics.median(first / pulled for pulled, _, first, _ in rounds), "the pull of it", 2)
     yield Figure("the same", statistics.median(first / theirs for _, theirs, first, _ in rounds), "skopeo copy of it", 2)
     yield Figure("a second copy of it", statistics.median(second / first for _, _, first, second in rounds), "the first one", 0.2)
-    yield Figure("its memory", most, "MiB held by the command and its cores, of which each holds its blob")
+    yield Figure("its memory", most, "MiB held by the command and its cores", MOST)
 
 
 if __name__ == "__main__":

@@ -19,14 +19,14 @@ Outcome = TypeVar("Outcome")
 Begin = Callable[[], Callable[[Task], Outcome]]  # what a process begins with, and does for each task
 
 
-def side_by_side(tasks: Iterable[Task], begin: Begin[Task, Outcome]) -> Generator[tuple[Task, Outcome], None, None]:
+def side_by_side(tasks: Iterable[Task], begin: Begin[Task, Outcome], count: int = COUNT) -> Generator[tuple[Task, Outcome], None, None]:
     """Each task with its outcome, as they end. Raises what a process raised, and EOFError if one was killed. However it ends, none of them is left."""
     from multiprocessing import connection, get_context  # which take a while, and only this needs
     context, waiting, processes, ways, done = get_context("fork"), iter(tasks), [], dict["Connection", Task](), False
     try:
         gc.freeze()  # so that the processes share the memory of what is there
         with uninterrupted():  # until a process has its own way of ending
-            for task in itertools.islice(waiting, COUNT):
+            for task in itertools.islice(waiting, count):
                 ours, theirs = context.Pipe()
                 processes.append(context.Process(target=worked, args=(theirs, task, begin), daemon=True))
                 processes[-1].start()

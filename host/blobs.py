@@ -55,6 +55,13 @@ def ranges(sizes: list[int]) -> list[range]:
     return sorted(found, key=lambda span: -sum(sizes[span.start:span.stop]))
 
 
+def beginning(answer: Frame) -> int | None:
+    """Where a body that was requested by a range begins, if it is of the blob; at its first byte if the range was ignored."""
+    fields = {name: value for name, value in answer.get("headers", [])}
+    partial = PARTIAL.fullmatch(str(fields.get("content-range"))) if answer.get("status") == 206 else None
+    return int(partial[1]) if partial else 0 if answer.get("status") == 200 else None
+
+
 class Received:
     """What a core asks a registry for the blobs of a range. They are written to hidden files, with which another core goes on; what is on disk is read there."""
 
@@ -75,7 +82,7 @@ class Received:
             return framed(piece)
         answer, self.data = self.registry.reply(frame)
         while self.data and self.skip:
-            left = self.data[self.skip:]
+            self.has_grown, left = True, self.data[self.skip:]
             self.skip -= len(self.data) - len(left)
             answer, self.data = framed(left) if left else self.registry.reply(frame)
         return answer, self.data
@@ -132,20 +139,20 @@ class Received:
             return self.stored(self.path)
         more = [["range", f"bytes={have}-"]] if have else []
         answer, data = self.registry.reply(frame | {"headers": frame["headers"] + more})
-        status, fields = answer.get("status"), {name: value for name, value in answer.get("headers", [])}
-        partial = PARTIAL.fullmatch(str(fields.get("content-range"))) if status == 206 else None
-        if have and (status == 416 or status == 206 and not (partial and int(partial[1]) == have)):
+        begins = beginning(answer)
+        if have and begins not in (0, have) and answer.get("status") in (206, 416):
             self.path.unlink()
             return self.rest(frame, 0)
-        if status in (200, 206):
+        if begins is not None:
             self.disk, self.file = open(self.path, "rb") if have else None, open(self.path, "ab")
-            self.left, self.skip = have, 0 if partial else have
+            self.left, self.skip = have, max(0, have - begins)
         return ({"frame": "answer", "status": 200, "headers": []} if have and self.file else answer), data
 
     def may_go_on(self, report: str) -> bool:
         """Whether another core may succeed after this refusal: a token has ended, or the connection after some bytes; or what was on disk is not of the blob."""
         if "DigestError" in report and self.is_resumed:
-            self.path.unlink(missing_ok=True)
+            if self.layout:
+                self.path.unlink(missing_ok=True)
             return True
         was_renewed, self.is_renewed = self.is_renewed, "UnauthorizedError" in report
         return self.is_renewed and not was_renewed or "TransportFault" in report and self.has_grown

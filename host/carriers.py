@@ -1,4 +1,4 @@
-"""Has large blobs, which no core carries, at a copy's target: skopeo pushes them from a hidden layout, under no tag."""
+"""Has blobs that no core carries, empty ones and those whose digests are not SHA-256, at a copy's target: skopeo pushes them from a hidden layout, under no tag."""
 import base64
 import json
 import os
@@ -19,7 +19,7 @@ class Skopeo:
     def __init__(self, target: Frame, authority: Path | None, proxy: str | None) -> None:
         self.program, self.target, self.folder = shutil.which("skopeo"), target, tempfile.TemporaryDirectory(prefix="roksnaep-")
         if not self.program:
-            raise End(1, "a copy needs skopeo for blobs that are larger than 128 MiB: apt-get install skopeo")
+            raise End(1, "a copy needs skopeo for blobs that are empty, or have other digests than SHA-256: apt-get install skopeo")
         self.repository, auth = repository_of(target["reference"]), target["auth"]
         self.environment = os.environ | ({"HTTPS_PROXY": proxy, "HTTP_PROXY": proxy} if proxy else {})
         self.access = {"tls-verify": f"{'false' if target['protocol'] == 'http' else 'true'}"}

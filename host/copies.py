@@ -8,7 +8,7 @@ from typing import Iterable
 
 from host.blobs import Blobs, Refused, parsed, refused_layer
 from host.carriers import Skopeo
-from host.carry import HELD, Carry
+from host.carry import Carry, is_carried
 from host.conversation import Exchanges, Sent, converse
 from host.core import Core, Frame
 from host.layout import Layout
@@ -111,19 +111,20 @@ class Copy:
         return self.carry_blobs(settings, kinds["manifest"], documents["manifest"])
 
     def carry_blobs(self, settings: Frame, frame: Frame, content: bytes) -> Refused | None:
-        """Has the blobs carried by cores, and those that are too large for them by skopeo."""
+        """Has the blobs carried by cores, and those that these do not carry by skopeo."""
         try:
             manifest = parsed(content)
         except ValueError as error:
             raise End(1, f"its manifest cannot be copied, since a frame cannot have it: {error}") from None
         if refused := refused_layer(self.option.place, manifest, self.option.type):
             return refused, self.sides
-        large = [layer for layer in manifest["layers"] if layer["size"] > HELD]
-        skopeo = Skopeo(self.target, self.option.target_ca, self.option.proxy) if large else None
-        carry = Carry({"frame": "carry", "settings": settings, "target": self.target, "manifest": manifest}, self.sides.beside)
+        others = [blob for blob in (*manifest["layers"], manifest["config"]) if not is_carried(blob)]
+        skopeo = Skopeo(self.target, self.option.target_ca, self.option.proxy) if others else None
+        carry = Carry(settings, manifest, self.target, lambda: self.sides.beside().both)
         refusal = carry.run()
-        self.states = carry.states | {layer["digest"]: "pushed" for layer in large} | self.states
-        return refusal or (self.push(skopeo, {"frame": "blobs", "settings": settings, "manifest": manifest | {"layers": large}}, frame, content) if skopeo else None)
+        self.states = carry.states | {blob["digest"]: "pushed" for blob in others} | self.states
+        layers = [layer for layer in manifest["layers"] if layer in others] or manifest["layers"][:1]
+        return refusal or (self.push(skopeo, {"frame": "blobs", "settings": settings, "manifest": manifest | {"layers": layers}}, frame, content) if skopeo else None)
 
     def push(self, skopeo: Skopeo, word: Frame, frame: Frame, content: bytes) -> Refused | None:
         """Has blobs checked as a pull does, into a layout that is removed again, and pushed from there."""
@@ -135,7 +136,7 @@ class Copy:
                 return refusal
             layout.finish(self.option.place, frame["digest"], {})
             if said := skopeo.push(layout.work, frame["digest"]):
-                raise End(1, f"its large blobs were not pushed to {self.option.target}: {said}")
+                raise End(1, f"its blobs that are empty, or have other digests than SHA-256, were not pushed to {self.option.target}: {said}")
         return None
 
 

@@ -4,7 +4,7 @@ import fcntl
 import json
 import os
 import subprocess
-from typing import Any, Iterator
+from typing import IO, Any, Iterator
 
 from host.release import program
 
@@ -12,6 +12,7 @@ Frame = dict[str, Any]
 LINE, PIPE = 1 << 24, 1 << 20  # bytes: of a frame's line that the core writes, and of a pipe
 WRITTEN = 1 << 20  # the most bytes of a line that the core reads
 PIECE = PIPE - 4096  # so that a pipe holds a piece with its line
+CARRIED = 3  # the descriptor on which a core that carries a blob gets its bytes
 
 
 def framed(piece: bytes) -> tuple[Frame, bytes]:
@@ -19,18 +20,43 @@ def framed(piece: bytes) -> tuple[Frame, bytes]:
     return ({"frame": "piece", "bytes": len(piece)}, piece) if piece else ({"frame": "end"}, b"")
 
 
-class Core:
-    """A core that runs. A body is handed on in pieces, so that none is ever held whole."""
+@contextlib.contextmanager
+def third(number: int) -> Iterator[None]:
+    """Gives a descriptor to a program that is started meanwhile, which reads it as number 3, and closes it. What has that number here gets it back."""
+    kept = None
+    if number != CARRIED:
+        with contextlib.suppress(OSError):  # of a number that nothing has
+            kept = os.dup(CARRIED)
+        os.dup2(number, CARRIED, False)
+        os.close(number)
+    try:
+        yield
+    finally:
+        if kept is None:
+            os.close(CARRIED)
+        else:
+            os.dup2(kept, CARRIED, False)
+            os.close(kept)
 
-    def __init__(self, alone: bool = True) -> None:
+
+class Core:
+    """A core that runs. A body is handed on in pieces, so that none is ever held whole. One that carries a blob gets its bytes on a pipe of their own."""
+
+    def __init__(self, alone: bool = True, carries: bool = False) -> None:
         (path, which), pipe = program("roksnaep-core"), subprocess.PIPE
         if not os.access(path, os.X_OK):
             raise ValueError(f"{path} is not a program ({which}); make core builds one, and ROKSNAEP_CORE can name one")
-        # alone: in a session of its own, so that Ctrl-C reaches the command and not its core
-        self.process = subprocess.Popen([path], stdin=pipe, stdout=pipe, stderr=subprocess.DEVNULL, start_new_session=alone)
+        self.blob: IO[bytes] | None = None  # where it gets the bytes of a blob that it carries
+        with contextlib.ExitStack() as after:
+            if carries:
+                reads, writes = os.pipe()
+                self.blob = open(writes, "wb")
+                after.enter_context(third(reads))
+            # alone: in a session of its own, so that Ctrl-C reaches the command and not its core
+            self.process = subprocess.Popen([path], stdin=pipe, stdout=pipe, stderr=subprocess.DEVNULL, start_new_session=alone, pass_fds=[CARRIED] if carries else [])
         assert self.process.stdin and self.process.stdout
         self.input, self.output = self.process.stdin, self.process.stdout
-        for stream in (self.input, self.output):
+        for stream in filter(None, (self.input, self.output, self.blob)):
             with contextlib.suppress(OSError):  # of a user who has many pipes
                 fcntl.fcntl(stream, fcntl.F_SETPIPE_SZ, PIPE)
 
@@ -57,7 +83,7 @@ class Core:
     def close(self) -> None:
         """Ends it, whatever it does."""
         self.process.kill()
-        for stream in (self.input, self.output):
+        for stream in filter(None, (self.input, self.output, self.blob)):
             with contextlib.suppress(OSError, ValueError):
                 stream.close()
         self.process.wait()

@@ -3,6 +3,7 @@ import base64
 import contextlib
 import json
 import math
+import mmap
 import re
 import signal
 import socket
@@ -40,7 +41,7 @@ def uninterrupted() -> Iterator[None]:
 class Answer:
     """What has been received of an answer: the fields of its head, and of its body what is not handed on yet, at most as much as there is room for."""
 
-    def __init__(self, limit: int, room: bytearray = bytearray()) -> None:
+    def __init__(self, limit: int, room: bytearray | mmap.mmap = bytearray()) -> None:
         self.limit, self.size = limit, 0  # in bytes, of all heads and trailers
         self.room, self.held = memoryview(room), 0
         self.status, self.fields = 0, list[tuple[str, bytes]]()
@@ -173,7 +174,7 @@ class Network:
         self.timeout, self.end, self.document, self.headers = timeout, end, document, headers
         self.statuses, self.failure, self.url, self.realms = dict[str, int](), "", "", set[Place]()
         self.remembered, self.late = Remembered(), ""
-        self.multi, self.answer, self.room = pycurl.CurlMulti(), Answer(0), bytearray(PIECE)
+        self.multi, self.answer, self.room = pycurl.CurlMulti(), Answer(0), mmap.mmap(-1, PIECE, mmap.MAP_PRIVATE)  # which takes no memory before it is used
         self.curl: pycurl.Curl | None = None
         for path in filter(None, (access.authority, access.certificate, access.private_key)):
             path.read_bytes()  # so that a file that is missing is refused before any request
@@ -272,8 +273,8 @@ class Network:
         is_first = place == self.access.own
         key = method, self.url, *(value for name, value in frame["headers"] if name.lower() == "authorization")
         kept = self.remembered.find(key) if is_first or self.is_token else None
+        self.leave()  # before the body is read, so that the one of the last request is not held any more
         if kept:
-            self.leave()
             self.answer = kept
         else:
             self.send(frame, place, Upload(frame["bytes"], body) if frame.get("bytes") else None)
@@ -326,7 +327,7 @@ class Network:
         if self.blob and piece:
             rate = self.size / 1e6 / max(time.monotonic() - self.began, 1e-6)
             progress.show(f"{self.blob[:19]} {self.size / 1e6:9.1f} MB {rate:7.1f} MB/s")
-        elif not piece:
+        elif self.blob:
             progress.end()
         return framed(piece)
 

@@ -2,6 +2,7 @@
 import base64
 import contextlib
 import json
+import os
 import shutil
 import signal
 import subprocess
@@ -15,7 +16,7 @@ sys.path[:0] = [str(TOP), str(TOP / "tests")]
 import keyless  # noqa: E402
 from cryptography.hazmat.primitives.serialization import load_pem_private_key  # noqa: E402
 from locks import indexed  # noqa: E402
-from pulls import large_image  # noqa: E402
+from pulls import MOST, children, large_image, layers_like, runs, watched  # noqa: E402
 from real_parts import certificates  # noqa: E402
 from registry import HASH, MANIFEST, Registry, asked, digest_of, door, json_token, layers_of, make_layout, put_referrers, ran, sign  # noqa: E402
 
@@ -79,15 +80,47 @@ def copies_an_image(live):
     return told["sentence"]
 
 
-def copies_a_layer_that_no_core_holds(live):
-    """One of more than 128 MiB is pushed by skopeo, the other one by a core."""
-    _, layers = large_image(live, "with-a-large-one", [129, 1])
+def copies_large_layers_in_constant_memory(live):
+    """Whatever their sizes are, the command, its processes and its cores hold less than a pull may."""
+    _, layers = large_image(live, "with-large-ones", [200, 64, 64, 64, 1])
     with target(live, "large-copied") as registry:
-        told = copies(live, f"{live.place}/with-a-large-one:v1", f"{registry.place}/copy:v1")
+        words = ["copy", f"{live.place}/with-large-ones:v1", f"{registry.place}/copy:v1", "--key", live.public]
+        status, _, err, most = watched(live, words)
+        assert (status, err) == (0, ""), err
         for layer in layers:
             assert registry.blob_file(layer["digest"]).stat().st_size == layer["size"], layer
         assert live.ran(["verify", f"{registry.place}/copy:v1", "--key", live.public, "--blobs"])[0] == 0
-    return told["sentence"]
+        assert most < MOST, most
+    return f"at most {most:.0f} MiB held"
+
+
+def goes_on_with_a_copy_whose_source_broke_off(live):
+    """Into the same upload, by a range or from the start."""
+    layers, told = layers_like(live, "broken-source"), []
+    large = layers[2]
+    for way in (lambda at: at.hand_on(), lambda at: at.hand_on(without=("host", "range"))):
+        seen, uploads = [], []
+        cut = {digest_of(large): lambda at: seen.append(at.headers.get("range")) or (at.hand_on(cut=3_000_000) if len(seen) == 1 else way(at))}
+        with target(live, "gone-on") as registry, door(cut, live.place) as here, door({"/uploads/": lambda at: uploads.append(at.command) or at.hand_on()}, registry.place) as there:
+            copies(live, f"{here}/broken-source:v1", f"{there}/copy:v1")
+            assert registry.blob_file(digest_of(large)).read_bytes() == large
+        assert len(seen) == 2 and seen[1] and uploads.count("POST") == 6, (seen, uploads)
+        told.append(f"{seen[1]} of {len(large)}")
+    return ", ".join(told)
+
+
+def commits_no_copy_of_other_bytes(live):
+    """The source answers with as many other ones, or with a byte less or more: of that layer the target has nothing but an upload."""
+    layers, told = layers_like(live, "other-bytes"), []
+    large = layers[2]
+    for content, why in ((large[:-1] + bytes([large[-1] ^ 1]), "has the digest sha256:"), (large[:-1], "has the digest sha256:"), (large + b"x", "a body is longer than the limit")):
+        puts = []
+        with target(live, "other-bytes-copied") as registry, door({"/uploads/": lambda at: (puts.append(at.path) if at.command == "PUT" else None) or at.hand_on()}, registry.place) as there, door(
+                {digest_of(large): lambda at, content=content: at.answer(200, content)}, live.place) as here:
+            told.append(fails(live, why, f"{here}/other-bytes:v1", f"{there}/copy:v1"))
+            assert is_empty(registry) and not any(registry.blob_file(digest_of(x)).exists() for x in (large, content))
+            assert not any(urllib.parse.quote(digest_of(x), "") in path or digest_of(x) in path for x in (large, content) for path in puts), puts
+    return "".join(told)
 
 
 def copies_nothing_that_another_key_signed(live):
@@ -117,23 +150,25 @@ def copies_an_index(live):
 
 
 def goes_on_with_a_copy_that_broke_off(live):
-    """The third PATCH breaks: no tag is there. The next copy sends what is not."""
-    with target(live, "broken-copy") as registry:
-        seen = []
+    """From the third on each PATCH is refused, or its connection is lost: no tag is there. The next copy sends what is not."""
+    told = []
+    for way, why in ((lambda at: at.answer(500, b""), "returned the status 500"), (lambda at: setattr(at, "close_connection", True), "the connection failed")):
+        with target(live, "broken-copy") as registry:
+            seen = []
 
-        def cut(at):
-            seen.append(at.path)
-            return at.answer(500, b"") if len(seen) == 3 else at.hand_on()
+            def cut(at):
+                seen.append(at.path)
+                return way(at) if len(seen) >= 3 else at.hand_on()
 
-        def uploads(at):
-            return cut(at) if at.command == "PATCH" else at.hand_on()
-        with door({"/blobs/uploads/": uploads}, registry.place) as place:
-            told = fails(live, "", f"{live.place}/app:v1", f"{place}/copy:v1")
-        assert len(seen) >= 3
-        asked(registry.place, "GET", "/v2/copy/manifests/v1", expected=(404,))
-        assert is_empty(registry)
-        copies(live, f"{live.place}/app:v1", f"{registry.place}/copy:v1")
-    return told
+            def uploads(at):
+                return cut(at) if at.command == "PATCH" else at.hand_on()
+            with door({"/blobs/uploads/": uploads}, registry.place) as place:
+                told.append(fails(live, why, f"{live.place}/app:v1", f"{place}/copy:v1"))
+            assert len(seen) >= 3
+            asked(registry.place, "GET", "/v2/copy/manifests/v1", expected=(404,))
+            assert is_empty(registry)
+            copies(live, f"{live.place}/app:v1", f"{registry.place}/copy:v1")
+    return "".join(told)
 
 
 def copies_with_credentials_of_each(live):
@@ -182,7 +217,7 @@ def copies_with_credentials_of_each(live):
     return told["sentence"]
 
 
-def replaces_a_tag_only_if_it_may(live):
+def replaces_a_tag_only_if_it_may_copy(live):
     """A tag that is there with another digest, also that of the signatures, refuses the copy before anything is sent."""
     other = make_layout(live.folder / "in-the-way", layers_of("in-the-way", [900]))
     with target(live, "replaced") as registry:
@@ -202,7 +237,7 @@ def replaces_a_tag_only_if_it_may(live):
     return told
 
 
-def says_that_a_bundle_is_not_listed(live):
+def says_that_a_copied_bundle_is_not_listed(live):
     """This registry has no list of referrers."""
     named = make_layout(live.folder / "bundle-copied", layers_of("bundle-copied", [900]))
     live.push(live.folder / "bundle-copied", "bundle-copied:v1")
@@ -217,15 +252,35 @@ def says_that_a_bundle_is_not_listed(live):
     return told
 
 
-def leaves_no_tag_when_stopped(live):
-    with target(live, "stopped-copy") as registry, door({"/blobs/uploads/": lambda at: time.sleep(30) if at.command == "PATCH" else at.hand_on()}, registry.place) as place:
-        words = [COMMAND, "copy", f"{live.place}/app:v1", f"{place}/copy:v1", "--key", live.public]
+def stalled(live, way):
+    """A copy of which a layer does not come, and what becomes of it after a way of ending it: no tag, and none of its processes and cores."""
+    layer = {digest_of(live.layers[3]): lambda at: time.sleep(25)}
+    with target(live, "stopped-copy") as registry, door(layer, live.place) as here:
+        words = [COMMAND, "copy", f"{here}/app:v1", f"{registry.place}/copy:v1", "--key", live.public]
         with subprocess.Popen(words, env=live.environment, stderr=subprocess.PIPE, text=True) as run:
-            time.sleep(5)
-            run.send_signal(signal.SIGINT)
-            err = run.communicate(timeout=20)[1]
-        assert (run.returncode, err) == (4, f"stopped {words[2]}: by SIGINT\n"), (run.returncode, err)
+            until, others, pair = time.monotonic() + 120, [[]], []
+            while time.monotonic() < until and (others or len(pair) != 2):
+                time.sleep(0.5)
+                processes = children(run.pid)
+                pair, *others = sorted(filter(None, map(children, processes)), key=len, reverse=True) or [[]]
+            assert len(pair) == 2 and not others, (pair, others)
+            way(run.pid, pair)
+            err = run.communicate(timeout=30)[1]
+        time.sleep(0.5)
+        assert not any(map(runs, processes + pair)), (processes, pair)
         assert is_empty(registry)
+        return run.returncode, err, f"{here}/app:v1"
+
+
+def leaves_no_copy_when_stopped(live):
+    """By a signal, or by the end of the one that is killed: the command, the core that pushes a blob or the one that pulls it."""
+    status, err, source = stalled(live, lambda run, _: os.kill(run, signal.SIGINT))
+    assert (status, err) == (4, f"stopped {source}: by SIGINT\n"), (status, err)
+    status, err, _ = stalled(live, lambda run, _: os.kill(run, signal.SIGKILL))
+    assert (status, err) == (-signal.SIGKILL, ""), (status, err)
+    for which in 0, 1:
+        status, err, source = stalled(live, lambda _, pair, which=which: os.kill(pair[which], signal.SIGKILL))
+        assert (status, err) == (4, f"failed {source}: the core ended unexpectedly\n"), (status, err)
     return err
 
 
@@ -238,5 +293,5 @@ def copies_over_tls(live):
         return fails(live, "certificate", f"{live.place}/app:v1", f"{registry.place}/copy:v2", "--target-ca", certificates(live.folder / "copy-tls-other"))
 
 
-CASES = [copies_an_image, copies_a_layer_that_no_core_holds, copies_nothing_that_another_key_signed, copies_an_index, goes_on_with_a_copy_that_broke_off, copies_with_credentials_of_each, replaces_a_tag_only_if_it_may,
-         says_that_a_bundle_is_not_listed, leaves_no_tag_when_stopped, copies_over_tls]
+CASES = [copies_an_image, copies_nothing_that_another_key_signed, copies_an_index, goes_on_with_a_copy_that_broke_off, goes_on_with_a_copy_whose_source_broke_off, commits_no_copy_of_other_bytes,
+         copies_with_credentials_of_each, replaces_a_tag_only_if_it_may_copy, says_that_a_copied_bundle_is_not_listed, leaves_no_copy_when_stopped, copies_over_tls, copies_large_layers_in_constant_memory]

@@ -8,6 +8,7 @@ document written.
 import base64
 import contextlib
 import hashlib
+import io
 import json
 import os
 import re
@@ -16,7 +17,7 @@ import sys
 ACCEPT = "application/vnd.docker.distribution.manifest.v2+json, application/vnd.docker.distribution.manifest.list.v2+json, " \
     "application/vnd.oci.image.manifest.v1+json, application/vnd.oci.image.index.v1+json"
 INPUT, OUTPUT = sys.stdin.buffer, sys.stdout.buffer
-LINE, CHUNK = 1 << 20, 4 << 20
+LINE, CHUNK = 1 << 20, 1 << 20
 OCI = "application/vnd.oci.image.manifest.v1+json"
 
 
@@ -171,7 +172,7 @@ class Blobs(Pull):
         content = self.get(f"{self.base}/blobs/{blob['digest']}")
         if len(content) > blob["size"]:
             raise Refused("refused BodyTooLong\n")
-        if "sha256:" + hashlib.sha256(content).hexdigest() != blob["digest"]:
+        if hashlib.new(blob["digest"].partition(":")[0], content).hexdigest() != blob["digest"].partition(":")[2]:
             raise Refused(f'refused DigestError VerificationError "{blob["digest"]}" "sha256:other"\n')
         return content
 
@@ -258,15 +259,16 @@ class Target:
     def location(self, headers):
         return headers["location"] if "://" in headers["location"] else self.origin + headers["location"]
 
-    def push(self, content):
-        digest = "sha256:" + hashlib.sha256(content).hexdigest()
+    def push(self, stream):
+        """Pushes what a stream gives under its own digest."""
+        digest, start = hashlib.sha256(), 0
         at = self.location(self.ask("POST", f"{self.base}/blobs/uploads/", headers=[["content-length", "0"]]))
-        for start in range(0, len(content), CHUNK):
-            part = content[start:start + CHUNK]
+        while part := stream.read(CHUNK):
             kind = [["content-type", "application/octet-stream"], ["content-range", f"{start}-{start + len(part) - 1}"], ["content-length", str(len(part))]]
-            at = self.location(self.ask("PATCH", at, part, kind))
-        self.ask("PUT", f"{at}{'&' if '?' in at else '?'}digest={digest}", headers=[["content-length", "0"]])
-        return digest
+            at, start = self.location(self.ask("PATCH", at, part, kind)), start + len(part)
+            digest.update(part)
+        self.ask("PUT", f"{at}{'&' if '?' in at else '?'}digest=sha256:{digest.hexdigest()}", headers=[["content-length", "0"]])
+        return f"sha256:{digest.hexdigest()}"
 
     def put(self, name, content, kind):
         if self.ask("PUT", f"{self.base}/manifests/{name}", content, [["content-type", kind]]) is None:
@@ -275,22 +277,20 @@ class Target:
 
 
 class Carry:
-    """One blob of an image: pulled, checked and pushed if the target does not have it."""
+    """One blob, whose bytes come on a descriptor of their own: pushed if the target does not have it."""
 
     def __init__(self, given):
-        self.source, self.target = Blobs(given | {"first": given["index"], "end": given["index"] + 1}), Target(given["target"])
-        self.blob = self.source.range[0]
+        assert set(given) == {"frame", "target", "digest", "size", "moment"} and re.fullmatch("sha256:[0-9a-f]{64}", given["digest"]), given
+        self.target, self.digest = Target(given["target"]), given["digest"]
 
     def run(self):
-        write({"frame": "side", "side": "target"})
-        is_there = self.target.has(self.blob["digest"])
+        is_there = self.target.has(self.digest)
         if not is_there:
-            write({"frame": "side", "side": "source"})
-            self.source.authorize()
-            content = self.source.sized(self.blob)
-            write({"frame": "side", "side": "target"})
-            self.target.push(content)
-        write({"frame": "carried", "digest": self.blob["digest"], "state": "there" if is_there else "pushed"})
+            with open(3, "rb") as stream:
+                pushed = self.target.push(stream)
+            if pushed != self.digest:
+                raise Refused(f'refused DigestError VerificationError "{self.digest}" "{pushed}"\n')
+        write({"frame": "carried", "digest": self.digest, "state": "there" if is_there else "pushed"})
 
 
 class Copy:
@@ -324,7 +324,7 @@ class Copy:
         if first is not manifest or not self.given["tag"]:
             pushed.append(self.target.put(manifest[0]["digest"], manifest[1], manifest[0]["media_type"]))
         if self.given["tag"]:
-            pushed += [self.target.push(payload), self.target.push(b"{}"), self.target.put(self.target.tag, first[1], first[0]["media_type"]), self.target.put(name, signature, OCI)]
+            pushed += [self.target.push(io.BytesIO(payload)), self.target.push(io.BytesIO(b"{}")), self.target.put(self.target.tag, first[1], first[0]["media_type"]), self.target.put(name, signature, OCI)]
         write({"frame": "copied", "url": f"{self.target.base}/manifests/{first[0]['digest']}", "pushed": pushed})
 
     def signature(self, first, layer, payload):

@@ -108,13 +108,13 @@ class WithFolder(unittest.TestCase):
         self.key = self.folder / "public"
         openssl("ec", "-in", self.folder / "private", "-pubout", "-out", self.key)
 
-    def signed(self):
-        """The documents of the image's signature, as cosign puts them under its tag."""
-        payload = json.dumps({"critical": {"identity": {"docker-reference": ""}, "image": {"docker-manifest-digest": digest_of(MANIFEST)},
+    def signed(self, manifest=MANIFEST):
+        """The documents of an image's signature, as cosign puts them under its tag."""
+        payload = json.dumps({"critical": {"identity": {"docker-reference": ""}, "image": {"docker-manifest-digest": digest_of(manifest)},
                                            "type": "cosign container image signature"}, "optional": None}).encode()
         signature = base64.b64encode(openssl("dgst", "-sha256", "-sign", self.folder / "private", input=payload)).decode()
         self.signature = [manifest_of(b"{}", [payload], PAYLOAD_TYPE, {"dev.cosignproject.cosign/signature": signature}), b"{}", payload]
-        return {f"/v2/app/manifests/{digest_of(MANIFEST).replace(':', '-')}.sig": self.signature[0]} | {
+        return {f"/v2/app/manifests/{digest_of(manifest).replace(':', '-')}.sig": self.signature[0]} | {
             f"/v2/app/blobs/{digest_of(x)}": x for x in self.signature[1:]}
 
     def environment(self, fake="", **more):

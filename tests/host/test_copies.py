@@ -2,26 +2,33 @@
 """Tests of copies between two registries on loopback, over a core that believes almost everything: whose rules hold, what is said, and what is left."""
 import base64
 import contextlib
+import fcntl
+import hashlib
 import http.server
 import json
+import os
 import re
 import signal
 import sys
 import threading
 import time
 import unittest
+import unittest.mock
 import urllib.parse
 
-from support import IMAGE, LAYERS, MANIFEST, MANIFEST_TYPE, TOP, WithFolder, digest_of, registry
+from support import CONFIG, IMAGE, LAYERS, MANIFEST, MANIFEST_TYPE, TOP, WithFolder, digest_of, registry
+from test_blobs import ranged
 
 sys.path.append(str(TOP / "tests"))
 from registry import chunked_body  # noqa: E402
 
 from host.copies import Sides
+from host.core import Core
 from host.network import Network
 from host.places import Access
 
 
+LARGE = LAYERS[1]
 ABSENT = b'{"errors":[{"code":"MANIFEST_UNKNOWN","message":"manifest unknown"}]}'
 
 
@@ -39,9 +46,14 @@ class Target(http.server.BaseHTTPRequestHandler):
         kept, path, is_chunked = type(self), self.path.partition("?")[0], self.headers.get("transfer-encoding") == "chunked"
         body = chunked_body(self.rfile) if is_chunked else self.rfile.read(int(self.headers.get("content-length", 0)))
         kept.seen.append((self.command, path, dict(self.headers)))
+        self.body = body
         for part, way in kept.ways.items():
             if f"{self.command} {path}".startswith(part):
                 return way(self)
+        return self.usual()
+
+    def usual(self):
+        kept, path, body = type(self), self.path.partition("?")[0], self.body
         if path == "/v2/":
             return self.answer(200)
         if self.command == "GET":
@@ -80,6 +92,13 @@ def target(lists=False, **ways):
         server.server_close()
 
 
+def blobs_of(handler):
+    """The digests of the blobs that a target has, each of which it was given."""
+    found = {path.rpartition("/")[2]: content for path, content in handler.documents.items() if "/blobs/" in path}
+    assert all(digest_of(content) == digest for digest, content in found.items())
+    return {*found}
+
+
 class Copies(WithFolder):
     def copy(self, source, to, *words, **more):
         return self.run_it("copy", f"{source}/app:v1", f"{to}/copy:v1", "--key", str(self.key), *words, **more)
@@ -109,28 +128,63 @@ class Copies(WithFolder):
             self.assertEqual((status, err, out.endswith("; 1 of 3 blobs were there already, and not pulled\n")), (0, "", True), out)
             self.assertFalse([path for _, path, _ in handler.seen if path.endswith(digest_of(LAYERS[1]))])
 
-    def test_a_blob_that_breaks_off_at_the_source(self):
-        """Another core begins anew, at most five for a blob; what breaks at the target is not sent once more."""
-        for breaks, ended in ((1, 0), (99, 1)):
-            seen = []
+    def broken_off(self, way, breaks=1, goes_on=True):
+        """A copy whose larger layer breaks off so often, each time after a mebibyte more: its status, what it said, the ranges that were requested, and how many uploads were begun."""
+        seen = []
 
-            def broken(at):
-                seen.append(at.path)
-                if len(seen) > breaks:
-                    return at.usual()
-                at.answer(200, LAYERS[1][:1 << 20], [("Content-Length", str(len(LAYERS[1])))])
-                at.close_connection = True
-                return None
-            with registry(documents=self.signed(), **{"_blobs_" + digest_of(LAYERS[1]): broken}) as (source, _), target() as (to, other):
+        def broken(at):
+            seen.append(at.headers.get("range"))
+            if len(seen) > breaks:
+                return way(at)
+            begin, end = int((seen[-1] if goes_on and seen[-1] else "bytes=0-")[6:-1]), len(LARGE)
+            more = [("Content-Range", f"bytes {begin}-{end - 1}/{end}")] if begin else []
+            at.answer(206 if begin else 200, LARGE[begin:begin + (1 << 20)], [("Content-Length", str(end - begin)), *more])
+            at.close_connection = True
+            return None
+        with registry(documents=self.signed(), **{"_blobs_" + digest_of(LARGE): broken}) as (source, _), target() as (to, other):
+            status, _, err = self.copy(source, to)
+            self.assertEqual(("/v2/copy/manifests/v1" in other.documents, digest_of(LARGE) in blobs_of(other)), (not status, not status), err)
+            return status, err, seen, len(other.uploads)
+
+    def test_a_blob_that_breaks_off_at_the_source(self):
+        """Its bytes go on into the same upload, by a range if the registry takes it. There are five requests for a blob at most."""
+        for way, count in ((lambda at: ranged(at, LARGE), 2), (lambda at: at.usual(), 2), (lambda at: ranged(at, LARGE, 7), 3)):
+            status, err, seen, uploads = self.broken_off(way)
+            self.assertEqual((status, err, len(seen), uploads), (0, "", count, 5))
+            self.assertRegex(seen[1], r"bytes=10\d{5}-")
+        self.assertEqual(self.broken_off(lambda at: ranged(at, LARGE), 2)[::3], (0, 5))
+        status, err, seen, _ = self.broken_off(lambda at: at.usual(), 99, False)
+        self.assertEqual((status, "the connection failed" in err, len(seen)), (1, True, 5), err)
+
+    def test_a_blob_that_begins_anew(self):
+        """If the source refuses the rest, as after a token ended, or if what was put together is another blob."""
+        def refused(at):
+            return at.answer(401, b"") if at.headers.get("range") else at.usual()
+
+        def other(at):
+            return ranged(at, LARGE[:-1] + b"x") if at.headers.get("range") else at.usual()
+
+        for way in refused, other:
+            status, err, seen, uploads = self.broken_off(way)
+            self.assertEqual((status, err, len(seen), uploads), (0, "", 3, 6))
+        status, err, seen, _ = self.broken_off(lambda at: at.answer(401, b""))
+        self.assertEqual((status, "needs credentials" in err, len(seen)), (1, True, 4), err)
+        status, err, seen, _ = self.broken_off(lambda at: at.answer(200, LARGE[:-1] + b"x"))
+        self.assertEqual((status, "has the digest" in err, len(seen)), (1, True, 3), err)
+
+    def test_a_token_of_the_target_that_ends(self):
+        """What was pushed with it is begun anew, once."""
+        for count, wanted in ((1, 0), (99, 1)):
+            seen = []
+            with registry(documents=self.signed()) as (source, _), target(**{"PATCH_": lambda at: at.answer(401) if seen.append(at.path) or len(seen) <= count else at.usual()}) as (to, other):
                 status, _, err = self.copy(source, to)
-                self.assertEqual((status, len(seen)), (ended, 5 if ended else 2), err)
-                self.assertEqual("/v2/copy/manifests/v1" in other.documents, not ended)
+                self.assertEqual((status, "/v2/copy/manifests/v1" in other.documents, "needs credentials" in err), (wanted, not wanted, bool(wanted)), err)
 
     def test_a_core_that_ends(self):
-        for fake, wanted in (("carry 4", 4), ("carry 6", 6), ("carry 3", 3)):
+        for fake, wanted in (("carry 4", 4), ("carry 6", 6), ("carry 3", 3), ("blobs 4", 4), ("blobs 6", 6), ("blobs 0", 4)):
             with registry(documents=self.signed()) as (source, _), target() as (to, other):
                 status, _, err = self.copy(source, to, fake=fake)
-                self.assertEqual((status, err.count("\n"), "/v2/copy/manifests/v1" in other.documents), (wanted, 1, False), err)
+                self.assertEqual((status, err.count("\n"), "/v2/copy/manifests/v1" in other.documents, blobs_of(other)), (wanted, 1, False, set()), err)
 
     def test_a_tag_that_is_there(self):
         with registry(documents=self.signed()) as (source, _), target() as (to, other):
@@ -166,6 +220,10 @@ class Copies(WithFolder):
             status, _, err = self.copy(source, to)
             self.assertEqual((status, "has the digest" in err), (1, True), err)
             self.assertNotIn("/v2/copy/manifests/v1", other.documents)
+            self.assertNotIn(digest_of(b"other bytes"), blobs_of(other))  # though the core would commit them under their own digest
+        with registry(documents=self.signed(), **{"_blobs_" + digest_of(LARGE): lambda at: at.answer(200, LARGE + b"x")}) as (source, _), target() as (to, other):
+            status, _, err = self.copy(source, to)
+            self.assertEqual((status, "longer than the limit" in err, len(blobs_of(other)) < 3), (1, True, True), err)
         with registry(documents=self.signed()) as (source, _), target() as (to, other):
             status, _, err = self.copy(source, to, "--type", "a/b", fake="ends 6")
             self.assertEqual((status, other.seen), (6, []))
@@ -192,6 +250,48 @@ class Copies(WithFolder):
             started.send_signal(signal.SIGINT)
             self.assertEqual((started.communicate(timeout=15)[1], started.returncode), (f"stopped {source}/app:v1: by SIGINT\n", 4))
             self.assertNotIn("/v2/copy/manifests/v1", other.documents)
+
+
+    def test_digests_that_no_core_carries(self):
+        """skopeo gets these blobs in a layout that no file of is left, with the credentials of the target alone."""
+        digest = f"sha512:{hashlib.sha512(LARGE).hexdigest()}"
+        manifest = MANIFEST.replace(digest_of(LARGE).encode(), digest.encode())
+        documents = self.signed(manifest) | {"/v2/app/manifests/v1": manifest, f"/v2/app/manifests/{digest_of(manifest)}": manifest, f"/v2/app/blobs/{digest}": LARGE}
+        program, pair = self.folder / "bin/skopeo", base64.b64encode(b"b:two").decode()
+        for folder in program.parent, self.folder / "tmp":
+            folder.mkdir()
+        with registry(documents=documents) as (source, _), target() as (to, other):
+            (self.folder / "config.json").write_text(json.dumps({"auths": {to: {"auth": pair}}}))
+            kept = f"find $TMPDIR -type f > {self.folder}/found; cat $TMPDIR/*/auth.json > {self.folder}/auth; echo $* > {self.folder}/words"
+            for script, told in ((kept, f"the target does not have {digest}"), ("echo 'time=x msg=\"no space\"' >&2; exit 1", "were not pushed to {to}/copy:v1: no space")):
+                program.write_text(f"#!/bin/sh\n{script}\n")
+                program.chmod(0o755)
+                status, _, err = self.copy(source, to, env={"PATH": f"{program.parent}:{os.environ['PATH']}", "TMPDIR": str(self.folder / "tmp")})
+                self.assertEqual((status, told.format(to=to) in err, "/v2/copy/manifests/v1" in other.documents, self.left("tmp")), (1, True, False, []), err)
+            self.assertEqual(blobs_of(other), {digest_of(CONFIG), digest_of(LAYERS[0])})
+            self.assertIn(f"blobs/sha512/{digest[7:]}\n", (self.folder / "found").read_text())
+            self.assertEqual(json.loads((self.folder / "auth").read_text()), {"auths": {to: {"auth": pair}}})
+            self.assertRegex((self.folder / "words").read_text(), f" --preserve-digests oci:.* docker://{to}/copy@{digest_of(manifest)}\n")
+
+
+class Descriptors(WithFolder):
+    def test_a_core_reads_its_blob_as_number_3(self):
+        """Whatever has this number keeps it, and nobody else has the end that the bytes are written to."""
+        path, kept = self.folder / "core", fcntl.fcntl(os.open(self.key, os.O_RDONLY), fcntl.F_DUPFD, 9)
+        path.write_text("#!/bin/sh\nexec cat <&3\n")
+        path.chmod(0o755)
+        with unittest.mock.patch.dict(os.environ, {"ROKSNAEP_CORE": str(path)}):
+            for is_taken in True, False, True:
+                if is_taken:
+                    os.dup2(kept, 3)
+                else:
+                    os.close(3)
+                core, other = Core(False, True), Core(False, True)
+                core.blob.write(b"{}\n")
+                core.blob.close()
+                self.assertEqual((core.read(), core.end(), other.process.poll()), ({}, 0, None))
+                other.close()
+                self.assertEqual(os.path.exists("/proc/self/fd/3") and os.path.samefile("/proc/self/fd/3", self.key), is_taken)
 
 
 class Both(unittest.TestCase):
