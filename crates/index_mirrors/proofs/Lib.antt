@@ -1,0 +1,5 @@
+pub mod AllImages
+pub mod EntryPulls
+pub mod IndexEntries
+pub mod OneImage
+pub mod WholeIndex

@@ -1,0 +1,4 @@
+pub mod Courses
+pub mod Indexes
+pub mod Pulled
+pub mod Terms
