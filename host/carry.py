@@ -1,4 +1,4 @@
-"""The blobs of a copy, from registry to registry by pairs of cores side by side: one pulls a blob and checks it, and its bytes are passed on as they come to the other one, which pushes them."""
+"""The blobs of a copy, from registry to registry by pairs of cores side by side: one pulls a blob and checks it, and the other one pushes its bytes as they come."""
 import contextlib
 import re
 import threading
@@ -11,7 +11,7 @@ from host.conversation import Registry
 from host.core import Core, Frame, framed
 
 SHA256 = re.compile("sha256:[0-9a-f]{64}")
-PAIRS = 4  # side by side: each holds about 15 MiB and what its core that pushes holds
+PAIRS = 4  # side by side: each holds about 31 MiB at most, of which the core that pushes holds 16
 Both = Mapping[str, Registry]
 
 

@@ -22,7 +22,7 @@ def framed(piece: bytes) -> tuple[Frame, bytes]:
 
 @contextlib.contextmanager
 def third(number: int) -> Iterator[None]:
-    """Gives a descriptor to a program that is started meanwhile, which reads it as number 3, and closes it. What has that number here gets it back."""
+    """Moves a descriptor to the number that a program reads it by, which is started meanwhile; then it is closed here, and what has that number gets it back."""
     kept = None
     if number != CARRIED:
         with contextlib.suppress(OSError):  # of a number that nothing has
@@ -47,13 +47,15 @@ class Core:
         if not os.access(path, os.X_OK):
             raise ValueError(f"{path} is not a program ({which}); make core builds one, and ROKSNAEP_CORE can name one")
         self.blob: IO[bytes] | None = None  # where it gets the bytes of a blob that it carries
+        environment = os.environ | ({"MALLOC_MMAP_THRESHOLD_": str(PIPE)} if carries else {})  # so that glibc gives back at once what held a chunk
         with contextlib.ExitStack() as after:
             if carries:
                 reads, writes = os.pipe()
                 self.blob = open(writes, "wb")
                 after.enter_context(third(reads))
             # alone: in a session of its own, so that Ctrl-C reaches the command and not its core
-            self.process = subprocess.Popen([path], stdin=pipe, stdout=pipe, stderr=subprocess.DEVNULL, start_new_session=alone, pass_fds=[CARRIED] if carries else [])
+            self.process = subprocess.Popen([path], stdin=pipe, stdout=pipe, stderr=subprocess.DEVNULL, start_new_session=alone,
+                                            pass_fds=[CARRIED] if carries else [], env=environment)
         assert self.process.stdin and self.process.stdout
         self.input, self.output = self.process.stdin, self.process.stdout
         for stream in filter(None, (self.input, self.output, self.blob)):

@@ -18,7 +18,7 @@ from cryptography.hazmat.primitives.serialization import load_pem_private_key  #
 from locks import indexed  # noqa: E402
 from pulls import MOST, children, large_image, layers_like, runs, watched  # noqa: E402
 from real_parts import certificates  # noqa: E402
-from registry import HASH, MANIFEST, Registry, asked, digest_of, door, json_token, layers_of, make_layout, put_referrers, ran, sign  # noqa: E402
+from registry import HASH, MANIFEST, PLAIN, Registry, asked, digest_of, door, json_token, layers_of, make_layout, put_referrers, ran, sign  # noqa: E402
 
 COMMAND, RELATIVE = TOP / "bin/roksnaep", ", relativeurls: true"
 
@@ -121,6 +121,18 @@ def commits_no_copy_of_other_bytes(live):
             assert is_empty(registry) and not any(registry.blob_file(digest_of(x)).exists() for x in (large, content))
             assert not any(urllib.parse.quote(digest_of(x), "") in path or digest_of(x) in path for x in (large, content) for path in puts), puts
     return "".join(told)
+
+
+def copies_an_empty_layer(live):
+    """skopeo pushes it, and the cores the other one."""
+    layers = [b"", b"a layer"]
+    named = make_layout(live.folder / "with-an-empty-one", layers, media_type=PLAIN)
+    live.push(live.folder / "with-an-empty-one", "with-an-empty-one:v1")
+    sign(live.place, "with-an-empty-one", named["digest"], live.key)
+    with target(live, "empty-copied") as registry:
+        told = copies(live, f"{live.place}/with-an-empty-one:v1", f"{registry.place}/copy:v1")
+        assert all(registry.blob_file(digest_of(layer)).read_bytes() == layer for layer in layers)
+    return told["sentence"]
 
 
 def copies_nothing_that_another_key_signed(live):
@@ -293,5 +305,5 @@ def copies_over_tls(live):
         return fails(live, "certificate", f"{live.place}/app:v1", f"{registry.place}/copy:v2", "--target-ca", certificates(live.folder / "copy-tls-other"))
 
 
-CASES = [copies_an_image, copies_nothing_that_another_key_signed, copies_an_index, goes_on_with_a_copy_that_broke_off, goes_on_with_a_copy_whose_source_broke_off, commits_no_copy_of_other_bytes,
+CASES = [copies_an_image, copies_an_empty_layer, copies_nothing_that_another_key_signed, copies_an_index, goes_on_with_a_copy_that_broke_off, goes_on_with_a_copy_whose_source_broke_off, commits_no_copy_of_other_bytes,
          copies_with_credentials_of_each, replaces_a_tag_only_if_it_may_copy, says_that_a_copied_bundle_is_not_listed, leaves_no_copy_when_stopped, copies_over_tls, copies_large_layers_in_constant_memory]
