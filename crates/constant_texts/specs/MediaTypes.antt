@@ -1,7 +1,7 @@
 -- Media types (OCI image specification, media-types.md; Docker image manifest V2, schema 2; cosign; sigstore bundle).
 use Rattle.std.specs.Prelude.{◌≡◌, codes}
-use Rattle.oci_descriptors.specs.declared.layer_types.TheConstants as layer
-use Rattle.oci_descriptors.specs.declared.media_types.TheConstants as media
+use Rattle.oci_manifests.specs.declared.layer_types.TheConstants as layer
+use Rattle.oci_manifests.specs.declared.media_types.TheConstants as media
 use Rattle.engine_requests.specs.Requests.{manifest_types}
 use Rattle.engine_requests.specs.declared.requests.TheConstants as request
 use Rattle.cosign_parts.specs.declared.bundle.TheConstants as bundles

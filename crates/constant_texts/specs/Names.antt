@@ -5,7 +5,7 @@ use Rattle.oci_names.specs.declared.platform.TheConstants.Arch as architecture
 use Rattle.oci_names.specs.declared.platform.TheConstants.Os as system
 use Rattle.oci_transport.specs.declared.headers.TheConstants as sent
 use Rattle.oci_manifests.specs.declared.headers.TheConstants as header
-use Rattle.oci_descriptors.specs.declared.annotations.TheConstants as annotation
+use Rattle.oci_manifests.specs.declared.annotations.TheConstants as annotation
 
 -- of architectures and operating systems
 pub record PlatformNamesAre : Type 0 where

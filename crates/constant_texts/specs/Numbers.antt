@@ -2,8 +2,8 @@
 use Rattle.std.specs.Prelude.{◌≡◌, ◌-◌, ◌^◌, pos, codes}
 use Rattle.byte_streams.specs.declared.reading.TheConstants as input
 use Rattle.json_events.specs.declared.scalars.TheConstants as numbers
-use Rattle.key_envelope.specs.declared.key_box.TheConstants as box
-use Rattle.key_envelope.specs.declared.scrypt.TheConstants as scrypt
+use Rattle.key_parts.specs.declared.key_box.TheConstants as box
+use Rattle.key_parts.specs.declared.scrypt.TheConstants as scrypt
 use Rattle.sig_keys.specs.declared.rsa.TheConstants as rsa
 use Rattle.live_link.specs.declared.reading.TheConstants as frames
 

@@ -15,9 +15,9 @@ use Rattle.oci_manifests.specs.declared.document.OciManifest.{OciManifest}
 use Rattle.oci_manifests.specs.declared.document.OciManifest.TheVariants.{Image, ImageIndex}
 use Rattle.oci_manifests.specs.declared.index.OciImageIndex.{OciImageIndex}
 use Rattle.oci_manifests.specs.declared.manifest.OciImageManifest.{OciImageManifest}
-use Rattle.oci_descriptors.specs.Promise.{picks}
-use Rattle.oci_descriptors.specs.declared.promise.ResolverPromise.{ResolverPromise}
-use Rattle.oci_descriptors.proofs.ExactPicks.{picked}
+use Rattle.oci_manifests.specs.Promise.{picks}
+use Rattle.oci_manifests.specs.declared.promise.ResolverPromise.{ResolverPromise}
+use Rattle.oci_manifests.proofs.ExactPicks.{picked}
 use Rattle.cosign_chain.specs.Chain.{IsDocument, ReadsAs, FirstIsManifest, FirstIsIndex, LeadsToManifest}
 use Rattle.cosign_chain.specs.Documents.{document_by, document_in, is_manifest, is_first, is_led, leads}
 use Rattle.cosign_chain.specs.SameManifest.{same_manifest}

@@ -15,11 +15,11 @@ use Rattle.oci_names.specs.Reference.{digest_of}
 use Rattle.oci_digests.specs.Names.{Names, names}
 use Rattle.oci_digests.proofs.Equal.{named}
 use Rattle.oci_manifests.specs.declared.manifest.OciImageManifest.{OciImageManifest}
-use Rattle.oci_descriptors.specs.declared.descriptor.OciDescriptor.{OciDescriptor}
+use Rattle.oci_manifests.specs.declared.descriptor.OciDescriptor.{OciDescriptor}
 use Rattle.oci_manifests.specs.declared.blob.ImageLayer.{ImageLayer}
 use Rattle.oci_manifests.specs.declared.blob.Config.{Config}
 use Rattle.cosign_layers.specs.Satisfying.{PolicyContext}
-use Rattle.oci_descriptors.specs.declared.promise.ResolverPromise.{ResolverPromise}
+use Rattle.oci_manifests.specs.declared.promise.ResolverPromise.{ResolverPromise}
 use Rattle.cosign_chain.specs.Chain.{ConfigLinks, LayerLinks, LayersLink, FirstIsManifest, LeadsToManifest, Chain}
 use Rattle.cosign_chain.specs.Links.{ManifestLinks, Links, named_by, same_annotations, has_manifest, has_config, is_layer_of, has_layers, is_linked}
 use Rattle.cosign_chain.specs.declared.image.VerifiedImage.{VerifiedImage}

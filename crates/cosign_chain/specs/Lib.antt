@@ -1,6 +1,9 @@
 pub mod Chain
 pub mod Documents
+pub mod Laws
 pub mod Links
 pub mod Same
 pub mod SameLayer
 pub mod SameManifest
+pub mod Tests
+pub mod VerifiedDocuments

@@ -9,7 +9,7 @@ use Rattle.oci_names.specs.declared.reference.Reference.{Reference}
 use Rattle.oci_names.specs.Reference.{digest_of}
 use Rattle.oci_digests.specs.Names.{Names, names}
 use Rattle.oci_manifests.specs.declared.manifest.OciImageManifest.{OciImageManifest}
-use Rattle.oci_descriptors.specs.declared.descriptor.OciDescriptor.{OciDescriptor}
+use Rattle.oci_manifests.specs.declared.descriptor.OciDescriptor.{OciDescriptor}
 use Rattle.oci_manifests.specs.declared.blob.ImageLayer.{ImageLayer}
 use Rattle.oci_manifests.specs.declared.blob.Config.{Config}
 use Rattle.cosign_chain.specs.Chain.{ConfigLinks, LayersLink}

@@ -14,7 +14,7 @@ use cosign_layers::{
 };
 use cosign_parts::{LayerKind, LogKeys, Offline, SignatureLayer, SignatureVerifier};
 use json_values::Text;
-use oci_descriptors::ResolverPromise;
+use oci_manifests::ResolverPromise;
 use oci_names::Reference;
 use std::alloc::{AllocError, Global};
 

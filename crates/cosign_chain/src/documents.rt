@@ -11,10 +11,10 @@ ghost use Rattle.cosign_chain.specs.SameManifest.{same_option};
 use crate::image::VerifiedImage;
 use crate::manifest_fields::same_manifest;
 use json_values::{Blob, Text, read_json};
-use oci_descriptors::ResolverPromise;
 use oci_digests::names_digest;
 use oci_manifests::{
-    OciImageIndex, OciImageManifest, OciManifest, ReadError, Versioned, is_manifest_media_type,
+    OciImageIndex, OciImageManifest, OciManifest, ReadError, ResolverPromise, Versioned,
+    is_manifest_media_type,
 };
 use serde_json::Value;
 use std::alloc::{AllocError, Global};

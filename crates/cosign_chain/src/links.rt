@@ -7,10 +7,9 @@ ghost use Rattle.cosign_chain.specs.Links.{is_layer_of, has_layers, is_linked};
 
 use crate::image::VerifiedImage;
 use json_values::{Annotations, Text};
-use oci_descriptors::OciDescriptor;
 use oci_digests::names_digest;
 use oci_manifests::blob::Config;
-use oci_manifests::{ImageLayer, OciImageManifest};
+use oci_manifests::{ImageLayer, OciDescriptor, OciImageManifest};
 use oci_names::Reference;
 
 /// Returns whether the parts of an image are linked by their digests, without parsing any document, checking any

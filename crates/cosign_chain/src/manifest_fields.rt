@@ -5,8 +5,7 @@ ghost use Rattle.cosign_chain.specs.SameManifest.{same_descriptor, same_manifest
 
 use crate::links::same_annotations;
 use json_values::{List, Text};
-use oci_descriptors::OciDescriptor;
-use oci_manifests::OciImageManifest;
+use oci_manifests::{OciDescriptor, OciImageManifest};
 
 /// Returns whether two manifests are the same, compared field by field.
 pub fn same_manifest(a: &OciImageManifest, b: &OciImageManifest) -> bool

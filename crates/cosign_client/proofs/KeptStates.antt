@@ -8,7 +8,7 @@ use Rattle.oci_auth.specs.declared.auth.RegistryAuth.{RegistryAuth}
 use Rattle.oci_transport.specs.Link.{Link}
 use Rattle.registry_calls.specs.Clients.{Client, Kept, no_answers}
 use Rattle.registry_calls.specs.Confinement.{StaysConfined}
-use Rattle.cosign_shelves.specs.Settled.{IsSettled, IsSettledForAll}
+use Rattle.cosign_laws.specs.Settled.{IsSettled, IsSettledForAll}
 use Rattle.cosign_laws.proofs.ShelfCalls.{new_settled}
 use Rattle.cosign_client.specs.Keeping.{KeepsOnly}
 

@@ -1,5 +1,8 @@
+pub mod Calls
 pub mod KeptStates
+pub mod PartsInTurn
 pub mod PolicyFirst
+pub mod Pulls
 pub mod PushedLayers
 pub mod PushedPayload
 pub mod PushedSignatures

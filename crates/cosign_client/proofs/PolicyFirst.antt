@@ -18,7 +18,7 @@ use Rattle.cosign_rows.specs.declared.found.TrustedLayers.{TrustedLayers}
 use Rattle.cosign_rows.specs.declared.refusal.PullRefusal.{PullRefusal}
 use Rattle.cosign_rows.specs.declared.refusal.PullRefusal.TheVariants as refusal
 use Rattle.cosign_rows.proofs.Exits.{meets_wanting}
-use Rattle.document_rows.specs.Rows.{collected, documents_after, decided, documents_row}
+use Rattle.cosign_rows.specs.Rows.{collected, documents_after, decided, documents_row}
 
 -- ---- the rows refuse such a policy
 

@@ -2,7 +2,7 @@
 use Rattle.std.specs.Prelude.{ℕ, Bool, false, Option, Some, None, codes, unwrap_or}
 use Rattle.oci_auth.specs.AuthState.{fresh as nothing_kept}
 use Rattle.oci_engine.specs.declared.config.ClientConfig.{ClientConfig}
-use Rattle.oci_descriptors.specs.declared.promise.ResolverPromise.{ResolverPromise}
+use Rattle.oci_manifests.specs.declared.promise.ResolverPromise.{ResolverPromise}
 use Rattle.engine_terms.specs.declared.settings.ClientProtocol.{ClientProtocol}
 use Rattle.engine_terms.specs.declared.settings.Settings.{Settings}
 use Rattle.registry_calls.specs.Clients.{Kept, no_answers}

@@ -2,7 +2,7 @@
 ghost use Rattle.std.specs.Prelude.{◌≡◌, true, false, IfOk};
 ghost use Rattle.std.specs.FinMap as map;
 ghost use Rattle.sig_registry.specs.Config.{default_config};
-ghost use Rattle.cosign_shelves.specs.Settled.{IsSettledForAll};
+ghost use Rattle.cosign_laws.specs.Settled.{IsSettledForAll};
 ghost use Rattle.cosign_client.specs.Builder.{config_of, caches, keys_of, keys_or, fresh_client};
 ghost use Rattle.cosign_client.specs.State.{client_state};
 

@@ -12,8 +12,9 @@ mod written_client;
 pub use asked::{Asked, ask_for, image_in};
 pub use builder::ClientBuilder;
 pub use client::Client;
-pub use cosign_chain::{VerifiedImage, check_chain, check_links};
-pub use cosign_documents::{VerifiedDocuments, check_documents};
+pub use cosign_chain::{
+    VerifiedDocuments, VerifiedImage, check_chain, check_documents, check_links,
+};
 pub use cosign_rows::{PullRefusal, SkipCause, Skipped, SourceKind, TrustedLayers};
 pub use push_rows::PushResponse;
 pub use signature::{SignatureImage, pushed_signatures_are_found, signature_image};

@@ -9,9 +9,8 @@ ghost use Rattle.cosign_client.specs.Signature.{signature_manifest, signature_no
 use cosign_parts::{SIMPLE_SIGNING_TYPE, SignatureLayer, SimpleSigning};
 use json_tables::object;
 use json_values::{Annotations, Blob, Copied, Json, List, Text};
-use oci_descriptors::OCI_IMAGE_MEDIA_TYPE;
 use oci_manifests::blob::Config;
-use oci_manifests::{ImageLayer, OciImageManifest};
+use oci_manifests::{ImageLayer, OCI_IMAGE_MEDIA_TYPE, OciImageManifest};
 use std::alloc::{AllocError, Global};
 
 const PAYLOAD_TYPE: &str = "cosign container image signature";

@@ -3,12 +3,12 @@ ghost use Rattle.std.specs.Prelude.{◌≡◌};
 ghost use Rattle.cosign_client.specs.State.{client_state};
 ghost use Rattle.sig_registry.specs.States.{fresh_state};
 ghost use Rattle.cosign_client.specs.Clients.{config_by};
-ghost use Rattle.cosign_shelves.specs.Settled.{IsSettledForAll};
+ghost use Rattle.cosign_laws.specs.Settled.{IsSettledForAll};
 
 use crate::client::Client;
 use cosign_parts::LogKeys;
-use oci_descriptors::PlatformResolver;
 use oci_engine::{ClientConfig, ClientProtocol};
+use oci_manifests::PlatformResolver;
 use sig_registry::RegistryClient;
 use std::alloc::Global;
 

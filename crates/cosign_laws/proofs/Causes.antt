@@ -4,13 +4,13 @@ use Rattle.std.specs.Prelude.{if◌then◌else◌, find, MatchBool}
 use Rattle.oci_names.specs.declared.reference.Reference.{Reference}
 use Rattle.oci_names.specs.Reference.{whole_text, reads_back}
 use Rattle.oci_auth.specs.declared.auth.RegistryAuth.{RegistryAuth}
-use Rattle.oci_descriptors.specs.declared.descriptor.OciDescriptor.{OciDescriptor}
+use Rattle.oci_manifests.specs.declared.descriptor.OciDescriptor.{OciDescriptor}
 use Rattle.oci_manifests.specs.declared.blob.ImageLayer.{ImageLayer}
 use Rattle.oci_manifests.specs.declared.manifest.OciImageManifest.{OciImageManifest}
 use Rattle.oci_manifests.specs.declared.document.OciManifest.{OciManifest}
 use Rattle.oci_manifests.specs.declared.document.OciManifest.TheVariants.{Image, ImageIndex}
 use Rattle.oci_manifests.specs.declared.index.OciImageIndex.{OciImageIndex}
-use Rattle.oci_descriptors.specs.declared.index_entry.ImageIndexEntry.{ImageIndexEntry}
+use Rattle.oci_manifests.specs.declared.index_entry.ImageIndexEntry.{ImageIndexEntry}
 use Rattle.engine_answers.specs.Index.{entry_found, entry_reference}
 use Rattle.oci_transport.specs.Link.{Link}
 use Rattle.oci_transport.specs.declared.message.Exchange.{Exchange}
@@ -28,7 +28,7 @@ use Rattle.engine_terms.specs.Error.{is_memory as engine_is_memory}
 use Rattle.engine_requests.specs.Requests.{manifest_types}
 use Rattle.engine_rows.specs.Rows.{Row as Engine}
 use Rattle.engine_rows.specs.Pulls.{fetch_manifest_digest, pull_manifest_raw, held_blob}
-use Rattle.engine_rows.specs.Image.{layers_accepted, layer_of}
+use Rattle.engine_rows.specs.Image.{layers_by, layers_accepted, layer_of}
 use Rattle.registry_calls.specs.declared.error.SigstoreError.{SigstoreError}
 use Rattle.registry_calls.specs.declared.error.SigstoreError.TheVariants as sigstore
 use Rattle.registry_calls.specs.declared.error_context.Called.{Called}
@@ -137,7 +137,7 @@ unfolding document_call document_made
 document_own s image a types = Ends-lifted (Option Answers) (OnRefusal (IsOwn Pull)) (document_made s image a types) (words_own Pull image (pull_manifest_raw s image a types))
 
 layers_own : (s : Context) (source : Reference) (xs : List OciDescriptor) (layers : List ImageLayer) → Ends (OnRefusal (IsOwn Pull)) (layers_row s source xs layers)
-unfolding layers_row
+unfolding layers_by
 layers_own s source [] layers = done_own (IsOwn Pull) (Ok layers) tt
 layers_own s source (x ∷ xs) layers = next_own (IsOwn Pull) (blob_call s source (described x)) (λ content. layers_row s source xs (layers ++ layer_of x content ∷ [])) (blob_own s source (described x)) (λ content. layers_own s source xs (layers ++ layer_of x content ∷ []))
 

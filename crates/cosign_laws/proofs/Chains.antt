@@ -7,10 +7,10 @@ use Rattle.oci_names.specs.Reference.{reads_back}
 use Rattle.oci_auth.specs.declared.auth.RegistryAuth.{RegistryAuth}
 use Rattle.oci_manifests.specs.declared.document.OciManifest.{OciManifest}
 use Rattle.oci_manifests.specs.declared.document.OciManifest.TheVariants.{Image, ImageIndex}
-use Rattle.oci_descriptors.specs.declared.descriptor.OciDescriptor.{OciDescriptor}
+use Rattle.oci_manifests.specs.declared.descriptor.OciDescriptor.{OciDescriptor}
 use Rattle.oci_manifests.specs.declared.blob.ImageLayer.{ImageLayer}
 use Rattle.oci_manifests.specs.declared.index.OciImageIndex.{OciImageIndex}
-use Rattle.oci_descriptors.specs.declared.index_entry.ImageIndexEntry.{ImageIndexEntry}
+use Rattle.oci_manifests.specs.declared.index_entry.ImageIndexEntry.{ImageIndexEntry}
 use Rattle.oci_transport.specs.declared.message.Exchange.{Exchange}
 use Rattle.oci_transport.specs.Link.{Link}
 use Rattle.oci_protocol.specs.Proto.{Done}
@@ -43,8 +43,8 @@ use Rattle.cosign_layers.proofs.Layers.{gives}
 use Rattle.cosign_layers.proofs.SatisfiesPolicy.{stands_for}
 use Rattle.oci_digests.specs.Names.{Names, digest_text}
 use Rattle.oci_names.specs.declared.algorithm.Algorithm.TheVariants.{Sha256}
-use Rattle.oci_descriptors.specs.Promise.{Picks}
-use Rattle.oci_descriptors.specs.declared.promise.ResolverPromise.{ResolverPromise}
+use Rattle.oci_manifests.specs.Promise.{Picks}
+use Rattle.oci_manifests.specs.declared.promise.ResolverPromise.{ResolverPromise}
 use Rattle.cosign_chain.specs.Chain.{Chain, FirstIsManifest, FirstIsIndex, LeadsToManifest}
 use Rattle.cosign_chain.specs.Links.{Links as HasLinks}
 use Rattle.cosign_chain.specs.declared.image.VerifiedImage.{VerifiedImage}

@@ -21,11 +21,11 @@ use Rattle.oci_auth.specs.declared.auth_state.AuthState.{AuthState}
 use Rattle.oci_auth.specs.declared.token_type.RegistryOperation.TheVariants.{Pull}
 use Rattle.oci_manifests.specs.declared.document.OciManifest.{OciManifest}
 use Rattle.oci_manifests.specs.declared.document.OciManifest.TheVariants.{Image, ImageIndex}
-use Rattle.oci_descriptors.specs.declared.descriptor.OciDescriptor.{OciDescriptor}
+use Rattle.oci_manifests.specs.declared.descriptor.OciDescriptor.{OciDescriptor}
 use Rattle.oci_manifests.specs.declared.blob.ImageLayer.{ImageLayer}
 use Rattle.oci_manifests.specs.declared.manifest.OciImageManifest.{OciImageManifest}
 use Rattle.oci_manifests.specs.declared.index.OciImageIndex.{OciImageIndex}
-use Rattle.oci_descriptors.specs.declared.index_entry.ImageIndexEntry.{ImageIndexEntry}
+use Rattle.oci_manifests.specs.declared.index_entry.ImageIndexEntry.{ImageIndexEntry}
 use Rattle.engine_terms.specs.Contexts.{Context}
 use Rattle.engine_requests.specs.Sources.{Layer, described}
 use Rattle.engine_answers.specs.Index.{entry_found, entry_reference}
@@ -33,7 +33,7 @@ use Rattle.engine_requests.specs.Requests.{manifest_types}
 use Rattle.engine_terms.specs.declared.settings.Settings.{Settings}
 use Rattle.engine_rows.specs.Blobs.{IntoMemory}
 use Rattle.engine_rows.specs.Rows.{Row as Engine, token_given}
-use Rattle.engine_rows.specs.Image.{pull, layers_accepted, layer_of}
+use Rattle.engine_rows.specs.Image.{layers_by, pull, layers_accepted, layer_of}
 use Rattle.engine_rows.specs.Pulls.{fetch_manifest_digest, pull_manifest, pull_manifest_raw, held_blob}
 use Rattle.engine_rows.specs.Referrers.{pull_referrers}
 use Rattle.request_laws.proofs.CallConfinement.{Any, given_safe}
@@ -102,7 +102,7 @@ blob_confines k s image handed layer = let x = pulling k s image handed in confi
 -- ---- the image of a digest
 
 layers_confine : (k : AuthState) (s : Context) (source : Reference) (handed : Option RegistryAuth) (xs : List OciDescriptor) (layers : List ImageLayer) → Confines (pulling k s source handed) s.settings (layers_row s source xs layers)
-unfolding layers_row
+unfolding layers_by
 layers_confine k s source handed [] layers = confines_done Beside _ s.settings (Ok layers)
 layers_confine k s source handed (x ∷ xs) layers = confines_next Beside (pulling k s source handed) s.settings (blob_call s source (described x)) _ (blob_confines k s source handed (described x)) (λ content. layers_confine k s source handed xs (layers ++ layer_of x content ∷ []))
 

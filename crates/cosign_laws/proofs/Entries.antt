@@ -3,12 +3,12 @@ use Rattle.std.proofs.Common.{◌≡◌, ◌&&◌, ℕ, Bool, true, false, List,
 use Rattle.std.specs.Prelude.{if◌then◌else◌, find}
 use Rattle.std.specs.Option.{option_map_or}
 use Rattle.std.proofs.lemmas.Slice.Eq.{bytes_eq-Decides}
-use Rattle.oci_descriptors.specs.declared.index_entry.ImageIndexEntry.{ImageIndexEntry}
-use Rattle.oci_descriptors.specs.Promise.{Picks, lists, picks, resolved}
-use Rattle.oci_descriptors.specs.Resolvers.{is_for}
-use Rattle.oci_descriptors.specs.declared.promise.ResolverPromise.{ResolverPromise}
-use Rattle.oci_descriptors.specs.declared.promise.ResolverPromise.TheVariants.{FirstMatch, Fixed, Any}
-use Rattle.oci_descriptors.proofs.ExactPicks.{picked}
+use Rattle.oci_manifests.specs.declared.index_entry.ImageIndexEntry.{ImageIndexEntry}
+use Rattle.oci_manifests.specs.Promise.{Picks, lists, picks, resolved}
+use Rattle.oci_manifests.specs.Resolvers.{is_for}
+use Rattle.oci_manifests.specs.declared.promise.ResolverPromise.{ResolverPromise}
+use Rattle.oci_manifests.specs.declared.promise.ResolverPromise.TheVariants.{FirstMatch, Fixed, Any}
+use Rattle.oci_manifests.proofs.ExactPicks.{picked}
 use Rattle.engine_terms.specs.declared.error.OciDistributionError.{OciDistributionError}
 use Rattle.engine_terms.specs.declared.error.OciDistributionError.TheVariants as refusal
 use Rattle.engine_answers.specs.Index.{entry_named, entry_found}

@@ -15,9 +15,9 @@ use Rattle.oci_digests.specs.declared.error.DigestError.TheVariants as digest_re
 use Rattle.oci_manifests.specs.declared.document.OciManifest.{OciManifest}
 use Rattle.oci_manifests.specs.declared.document.OciManifest.TheVariants.{Image, ImageIndex}
 use Rattle.oci_manifests.specs.declared.manifest.OciImageManifest.{OciImageManifest}
-use Rattle.oci_descriptors.specs.declared.descriptor.OciDescriptor.{OciDescriptor}
+use Rattle.oci_manifests.specs.declared.descriptor.OciDescriptor.{OciDescriptor}
 use Rattle.oci_manifests.specs.declared.index.OciImageIndex.{OciImageIndex}
-use Rattle.oci_descriptors.specs.declared.index_entry.ImageIndexEntry.{ImageIndexEntry}
+use Rattle.oci_manifests.specs.declared.index_entry.ImageIndexEntry.{ImageIndexEntry}
 use Rattle.oci_manifests.specs.declared.blob.Config.{Config}
 use Rattle.oci_manifests.specs.declared.blob.ImageLayer.{ImageLayer}
 use Rattle.oci_transport.specs.declared.message.Exchange.{Exchange}
@@ -34,12 +34,12 @@ use Rattle.engine_answers.specs.Answers.{or_digest_error}
 use Rattle.engine_requests.specs.Requests.{manifest_types}
 use Rattle.engine_answers.specs.Documents.{document_read}
 use Rattle.engine_answers.specs.Index.{entry_found, entry_manifest, entry_reference}
-use Rattle.oci_descriptors.specs.Promise.{Picks}
-use Rattle.oci_descriptors.specs.declared.promise.ResolverPromise.{ResolverPromise}
+use Rattle.oci_manifests.specs.Promise.{Picks}
+use Rattle.oci_manifests.specs.declared.promise.ResolverPromise.{ResolverPromise}
 use Rattle.engine_rows.specs.Blobs.{IntoMemory}
 use Rattle.engine_rows.specs.Rows.{Row as Engine}
 use Rattle.engine_rows.specs.Pulls.{fetch_manifest_digest, pull_manifest_raw, held_blob}
-use Rattle.engine_rows.specs.Image.{is_accepted, all_accepted, layers_accepted, layer_of, config_of}
+use Rattle.engine_rows.specs.Image.{is_accepted, all_accepted, layers_accepted, layer_of, layers_by, config_of}
 use Rattle.engine_rows.specs.Answered.{DigestAnswered, Body, Document, LastBody}
 use Rattle.request_laws.proofs.DocumentAnswers.{body_before, body_after, raw_shows}
 use Rattle.engine_laws.proofs.BlobAnswers.{blob_shows}
@@ -163,7 +163,7 @@ one_more x xs got content c d all blob rest = record {
 }
 
 layers_show : (s : Context) (source : Reference) (xs : List OciDescriptor) (got : List ImageLayer) → EveryRun (Seen (Behind xs got)) (layers_row s source xs got)
-unfolding layers_row
+unfolding layers_by
 layers_show s source [] got = done_seen (Behind [] got) got (record { more = []; is = sym (append-nil got); layers = tt })
 layers_show s source (x ∷ xs) got = next_seen (IsBlob x.digest) (Behind (x ∷ xs) got) (blob_call s source (described x)) (λ content. layers_row s source xs (got ++ layer_of x content ∷ [])) (blob_call_shows s source (described x))
     (λ c content blob. more_seen (Behind xs (got ++ layer_of x content ∷ [])) (λ d all. Behind (x ∷ xs) got (c ++ d) all) (layers_row s source xs (got ++ layer_of x content ∷ [])) (layers_show s source xs (got ++ layer_of x content ∷ [])) (λ d all rest. one_more x xs got content c d all blob rest))

@@ -34,7 +34,7 @@ use Rattle.registry_calls.specs.Caching.{keeping, known_or, recalled, cached}
 use Rattle.registry_calls.specs.Calls.{digest_made, manifest_made, image_made, referrers_made, digest_call, manifest_call, image_call, referrers_call}
 use Rattle.registry_calls.specs.Clients.{Kept, Plain}
 use Rattle.registry_calls.specs.declared.error.SigstoreError.{SigstoreError}
-use Rattle.cosign_shelves.specs.Settled.{IsGiven, IsOf, IsAnswer, IsFromShelf, AreFromShelf}
+use Rattle.cosign_laws.specs.Settled.{IsGiven, IsOf, IsAnswer, IsFromShelf, AreFromShelf}
 use Rattle.shelf_laws.proofs.LostResponses.{Passes, Passes-more, Passes-bind, Passes-lifted, Stays, Comes, IsLost, Resilient}
 use Rattle.shelf_laws.proofs.ShelfRows.{IsIn}
 

@@ -7,16 +7,16 @@ use Rattle.oci_auth.specs.declared.auth.RegistryAuth.{RegistryAuth}
 use Rattle.oci_manifests.specs.declared.document.OciManifest.{OciManifest}
 use Rattle.oci_manifests.specs.declared.document.OciManifest.TheVariants.{Image, ImageIndex}
 use Rattle.oci_manifests.specs.declared.index.OciImageIndex.{OciImageIndex}
-use Rattle.oci_descriptors.specs.declared.index_entry.ImageIndexEntry.{ImageIndexEntry}
+use Rattle.oci_manifests.specs.declared.index_entry.ImageIndexEntry.{ImageIndexEntry}
 use Rattle.oci_manifests.specs.declared.manifest.OciImageManifest.{OciImageManifest}
-use Rattle.oci_descriptors.specs.declared.descriptor.OciDescriptor.{OciDescriptor}
+use Rattle.oci_manifests.specs.declared.descriptor.OciDescriptor.{OciDescriptor}
 use Rattle.oci_manifests.specs.declared.blob.ImageLayer.{ImageLayer}
 use Rattle.oci_protocol.specs.Proto.{Proto, Done, bind, unless_refused, ◌>>=◌}
 use Rattle.engine_terms.specs.Contexts.{Context}
 use Rattle.engine_answers.specs.Index.{entry_found, entry_reference}
 use Rattle.engine_requests.specs.Requests.{manifest_types}
 use Rattle.engine_requests.specs.Sources.{Layer, described}
-use Rattle.engine_rows.specs.Image.{layers_accepted, layer_of}
+use Rattle.engine_rows.specs.Image.{layers_by, layers_accepted, layer_of}
 use Rattle.registry_calls.specs.declared.error.SigstoreError.{SigstoreError}
 use Rattle.registry_calls.specs.declared.error_context.Called.TheVariants.{Pull}
 use Rattle.registry_calls.specs.ErrorContext.{with_error_context}
@@ -140,7 +140,7 @@ module _ {V : Type 0} {H : V → Type 0} (policy_context : PolicyContext V H) (s
       own = digest_reference image d
 
       layers_good : (xs : List OciDescriptor) (before : List ImageLayer) → Good _ (layers_row s own xs before)
-      unfolding layers_row
+      unfolding layers_by
       layers_good [] before = said _
       layers_good (x ∷ xs) before = good_next _ _ (calls.blob own (digest_in image reads d) (described x)) (λ content. layers_good xs (before ++ layer_of x content ∷ []))
 

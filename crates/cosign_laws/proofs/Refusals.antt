@@ -19,7 +19,7 @@ use Rattle.oci_manifests.specs.Document.{document_of}
 use Rattle.oci_manifests.specs.declared.versioned.Versioned.{Versioned}
 use Rattle.oci_manifests.specs.declared.document.OciManifest.{OciManifest}
 use Rattle.oci_manifests.specs.declared.document.OciManifest.TheVariants.{Image, ImageIndex}
-use Rattle.oci_descriptors.specs.declared.descriptor.OciDescriptor.{OciDescriptor}
+use Rattle.oci_manifests.specs.declared.descriptor.OciDescriptor.{OciDescriptor}
 use Rattle.oci_manifests.specs.declared.blob.ImageLayer.{ImageLayer}
 use Rattle.oci_manifests.specs.declared.manifest.OciImageManifest.{OciImageManifest}
 use Rattle.oci_transport.specs.Link.{Link}
@@ -39,15 +39,15 @@ use Rattle.json_values.specs.Refusals.{◌>>=◌ as ◌before◌}
 use Rattle.engine_terms.specs.Error.{is_memory as engine_is_memory}
 use Rattle.engine_requests.specs.Requests.{manifest_types}
 use Rattle.engine_answers.specs.Index.{entry_named, entry_found, entry_manifest, entry_reference}
-use Rattle.oci_descriptors.specs.Promise.{lists, resolved}
-use Rattle.oci_descriptors.specs.declared.promise.ResolverPromise.{ResolverPromise}
+use Rattle.oci_manifests.specs.Promise.{lists, resolved}
+use Rattle.oci_manifests.specs.declared.promise.ResolverPromise.{ResolverPromise}
 use Rattle.oci_manifests.specs.declared.index.OciImageIndex.{OciImageIndex}
-use Rattle.oci_descriptors.specs.declared.index_entry.ImageIndexEntry.{ImageIndexEntry}
+use Rattle.oci_manifests.specs.declared.index_entry.ImageIndexEntry.{ImageIndexEntry}
 use Rattle.engine_rows.specs.Blobs.{IntoMemory}
 use Rattle.engine_rows.specs.Rows.{Row as Engine}
 use Rattle.engine_rows.specs.Pulls.{fetch_manifest_digest, pull_manifest_raw, held_blob}
 use Rattle.engine_rows.specs.declared.image.ImageData.{ImageData}
-use Rattle.engine_rows.specs.Image.{is_accepted, all_accepted, layers_accepted, layer_of}
+use Rattle.engine_rows.specs.Image.{layers_by, is_accepted, all_accepted, layers_accepted, layer_of}
 use Rattle.engine_rows.specs.Causes.{Act, AnswerCause, BlobUrl, ManifestUrl, OwnDigest}
 use Rattle.request_laws.proofs.BlobCauses.{blob_causes}
 use Rattle.request_laws.proofs.DocumentCauses.{Accepted, OwnCause, raw_causes}
@@ -260,7 +260,7 @@ said : {A : Type 0} (text : List ℕ) (r : Result A OciDistributionError) → Of
 said text r h = Counts-done CallCounts (with_error_context Pull text r) (λ m. worded_counts Pull text m m r (still_counts m r h))
 
 layers_counts : (s : Context) (source : Reference) (xs : List OciDescriptor) (layers : List ImageLayer) → Counts CallCounts (layers_row s source xs layers)
-unfolding layers_row
+unfolding layers_by
 layers_counts s source [] layers = answered layers
 layers_counts s source (x ∷ xs) layers = next (blob_call s source (described x)) (λ content. layers_row s source xs (layers ++ layer_of x content ∷ [])) (blob_call_counts s source (described x)) (λ content. layers_counts s source xs (layers ++ layer_of x content ∷ []))
 

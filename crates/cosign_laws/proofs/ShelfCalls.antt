@@ -35,7 +35,7 @@ use Rattle.registry_cache.specs.KeptCalls.{digests, manifests, images, referrers
 use Rattle.registry_calls.specs.Clients.{Kept, Plain}
 use Rattle.registry_calls.specs.declared.error.SigstoreError.{SigstoreError}
 use Rattle.registry_calls.specs.Clients.{no_answers}
-use Rattle.cosign_shelves.specs.Settled.{IsGiven, IsOf, IsAnswer, IsFromShelf, AreFromShelf, IsSettled}
+use Rattle.cosign_laws.specs.Settled.{IsGiven, IsOf, IsAnswer, IsFromShelf, AreFromShelf, IsSettled}
 use Rattle.cosign_laws.proofs.KeptAnswers.{kept_right, digest_keeps, manifest_keeps, image_keeps, referrers_keep}
 use Rattle.shelf_laws.proofs.ShelfRows.{IsIn}
 

@@ -18,9 +18,9 @@ use Rattle.oci_digests.proofs.ExactChecks.{is_validated}
 use Rattle.oci_manifests.specs.declared.document.OciManifest.{OciManifest}
 use Rattle.oci_manifests.specs.declared.document.OciManifest.TheVariants.{Image, ImageIndex}
 use Rattle.oci_manifests.specs.declared.index.OciImageIndex.{OciImageIndex}
-use Rattle.oci_descriptors.specs.declared.index_entry.ImageIndexEntry.{ImageIndexEntry}
+use Rattle.oci_manifests.specs.declared.index_entry.ImageIndexEntry.{ImageIndexEntry}
 use Rattle.oci_manifests.specs.declared.manifest.OciImageManifest.{OciImageManifest}
-use Rattle.oci_descriptors.specs.declared.descriptor.OciDescriptor.{OciDescriptor}
+use Rattle.oci_manifests.specs.declared.descriptor.OciDescriptor.{OciDescriptor}
 use Rattle.oci_manifests.specs.declared.blob.ImageLayer.{ImageLayer}
 use Rattle.oci_transport.specs.Link.{Link, AnsweredBy}
 use Rattle.oci_transport.specs.declared.message.Request.{Request}
@@ -43,7 +43,7 @@ use Rattle.engine_terms.specs.declared.error.OciDistributionError.{OciDistributi
 use Rattle.engine_terms.specs.declared.settings.Settings.{Settings}
 use Rattle.engine_rows.specs.Rows.{Row as Engine}
 use Rattle.engine_rows.specs.declared.image.ImageData.{ImageData}
-use Rattle.engine_rows.specs.Image.{layers_accepted, layer_of, config_of}
+use Rattle.engine_rows.specs.Image.{layers_accepted, layer_of, layers_by, config_of}
 use Rattle.registry_calls.specs.declared.error.SigstoreError.{SigstoreError}
 use Rattle.registry_calls.specs.declared.error.SigstoreError.TheVariants as sigstore
 use Rattle.registry_calls.specs.declared.error_context.Called.{Called}
@@ -79,7 +79,7 @@ use Rattle.cosign_rows.specs.Part.{nothing, skipping, appended, layer_part, name
 use Rattle.cosign_rows.specs.References.{signature_tag, tag_reference, digest_reference, or_not_valid, reading_back}
 use Rattle.cosign_rows.specs.Refusal.{is_memory, refused_as}
 use Rattle.cosign_rows.specs.Search.{payload_type, document_part, tag_layers, or_skipped, tag_by, tag_source, bundle_type, referrer_part, referrer_by, referrer_row, referrers_row, listed_row, referrers_source, trusted_layers, searched}
-use Rattle.cosign_shelves.specs.Settled.{AreFromShelf, IsSettled}
+use Rattle.cosign_laws.specs.Settled.{AreFromShelf, IsSettled}
 use Rattle.cosign_rows.specs.Tails.{after_search}
 use Rattle.cosign_rows.specs.Verified.{Whole, constrained, is_unconstrained, readable_by, readable, as_whole, part_of, stands_by, signed_digest, standing, verified_image, verified}
 use Rattle.cosign_rows.specs.declared.found.Part.{Part}
@@ -91,7 +91,7 @@ use Rattle.cosign_rows.specs.declared.found.SourceKind.TheVariants.{Tag as ByTag
 use Rattle.cosign_rows.specs.declared.found.TrustedLayers.{TrustedLayers}
 use Rattle.cosign_rows.specs.declared.refusal.PullRefusal.{PullRefusal}
 use Rattle.cosign_rows.specs.declared.refusal.PullRefusal.TheVariants as refusal
-use Rattle.cosign_shelves.specs.Shelves.{IsAsked, SignedByTag, SignedByReferrer, ImageShelf, WideShelf, ValidShelf, AnswersFrom, OkOrMemory}
+use Rattle.cosign_laws.specs.Shelves.{IsAsked, SignedByTag, SignedByReferrer, ImageShelf, WideShelf, ValidShelf, AnswersFrom, OkOrMemory}
 use Rattle.cosign_laws.proofs.ShelfCalls.{digest_given, manifest_given, image_given, referrers_given}
 use Rattle.shelf_laws.proofs.LostResponses.{Stays, Runs-passes, Meets-passes, stays_preserves}
 use Rattle.shelf_laws.proofs.ShelfRows.{Allows, settled_alone, settled_allows}
@@ -400,7 +400,7 @@ module _ {V : Type 0} {H : V → Type 0} (policy_context : PolicyContext V H) (s
   blob_row_gives x has = AlwaysOk-lifted R (AlwaysOk-more (λ (b : List ℕ). Unit {0}) (words_give Pull source (blob_gives home valid.short source at_digest a can moment x has)) (λ b is. tt))
 
   layers_row_give : (xs : List OciDescriptor) (given : List ImageLayer) → All (HasLayer shelf accepted) xs → AlwaysOk I (answer shelf) (λ (layers : List ImageLayer). Unit {0}) (layers_row ctx source xs given)
-  unfolding layers_row
+  unfolding layers_by
   layers_row_give [] given all = AlwaysOk-done (Ok given) tt
   layers_row_give (x ∷ xs) given all = AlwaysOk-next _ (blob_row_gives (described x) (All-head (HasLayer shelf accepted) x xs all).0) (λ content u. layers_row_give xs (given ++ layer_of x content ∷ []) (All-tail (HasLayer shelf accepted) x xs all))
 

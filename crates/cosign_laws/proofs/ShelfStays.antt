@@ -26,8 +26,8 @@ use Rattle.registry_calls.specs.Calls.{in_words, digest_made, manifest_made, ima
 use Rattle.shelf_laws.specs.IsHosted.{IsHosted, IsAt, Settled}
 use Rattle.shelf_laws.proofs.References.{spelled, resolved_domain}
 use Rattle.cosign_rows.specs.References.{tag_reference, digest_reference}
-use Rattle.cosign_shelves.specs.Settled.{AreFromShelf}
-use Rattle.cosign_shelves.specs.Shelves.{IsAsked}
+use Rattle.cosign_laws.specs.Settled.{AreFromShelf}
+use Rattle.cosign_laws.specs.Shelves.{IsAsked}
 use Rattle.cosign_laws.proofs.KeptAnswers.{lifted_stays, digest_settled, manifest_settled, image_settled, referrers_settled}
 use Rattle.shelf_laws.proofs.LostResponses.{EndsLost, Resilient, resilient_done, resilient_bind, resilient_next, Stays, Stays-done, Stays-bind}
 use Rattle.cosign_laws.proofs.PullRows.{HoldsOfCalls, image_in, tag_in, digest_in, referrer_in, entry_in_it}

@@ -20,13 +20,13 @@ use engine_answers::{entry_found, entry_manifest, entry_reference, read_document
 use engine_rows::{config_of, layer_of, layers_accepted};
 use engine_terms::OciDistributionError;
 use json_values::{Blob, Copied, List, Text};
-use oci_descriptors::{
-    IMAGE_MANIFEST_LIST_MEDIA_TYPE, IMAGE_MANIFEST_MEDIA_TYPE, ImageIndexEntry,
-    OCI_IMAGE_INDEX_MEDIA_TYPE, OCI_IMAGE_MEDIA_TYPE, OciDescriptor, PlatformResolver,
-};
 use oci_digests::{DigestError, validate_digest};
 use oci_manifests::blob::Config;
-use oci_manifests::{ImageLayer, OciImageManifest, OciManifest};
+use oci_manifests::{
+    IMAGE_MANIFEST_LIST_MEDIA_TYPE, IMAGE_MANIFEST_MEDIA_TYPE, ImageIndexEntry, ImageLayer,
+    OCI_IMAGE_INDEX_MEDIA_TYPE, OCI_IMAGE_MEDIA_TYPE, OciDescriptor, OciImageManifest, OciManifest,
+    PlatformResolver,
+};
 use oci_names::Reference;
 use oci_transport::Transport;
 use registry_calls::{Called, ClientCapabilities, SigstoreError, with_error_context};

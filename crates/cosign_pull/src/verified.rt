@@ -16,6 +16,7 @@ ghost use Rattle.cosign_rows.specs.Verified.{manifest_digests, readable, signed_
 ghost use Rattle.cosign_rows.specs.Verified.{verified, verified_image};
 
 use crate::pull::pull_image;
+use crate::search;
 use cosign_chain::VerifiedImage;
 use cosign_layers::{PullPolicy, first_satisfying};
 use cosign_parts::{Offline, SignatureLayer, SignatureVerifier};
@@ -23,7 +24,6 @@ use cosign_rows::{
     Asked, PullRefusal, Pulled, PulledManifest, SignedDigest, Terms, TrustedLayers,
     digest_reference,
 };
-use cosign_search::search;
 use json_values::{Copied, Text};
 use oci_names::Reference;
 use oci_transport::Transport;

@@ -3,13 +3,13 @@ use Rattle.std.proofs.Common.{◌≡◌, ◌<◌, ℕ, ◌+◌, suc, List, [], �
 use Rattle.std.proofs.Math.Seq.{drop-cons}
 use Rattle.oci_transport.specs.Link.{Link}
 use Rattle.oci_names.specs.declared.reference.Reference.{Reference}
-use Rattle.oci_descriptors.specs.declared.descriptor.OciDescriptor.{OciDescriptor}
+use Rattle.oci_manifests.specs.declared.descriptor.OciDescriptor.{OciDescriptor}
 use Rattle.oci_manifests.specs.declared.blob.ImageLayer.{ImageLayer}
 use Rattle.oci_protocol.specs.Proto.{◌>>=◌}
 use Rattle.engine_terms.specs.Contexts.{within}
 use Rattle.engine_requests.specs.Sources.{described}
 use Rattle.engine_terms.specs.declared.settings.Settings.{Settings}
-use Rattle.engine_rows.specs.Image.{layer_of}
+use Rattle.engine_rows.specs.Image.{layers_by, layer_of}
 use Rattle.registry_calls.specs.declared.error.SigstoreError.{SigstoreError}
 use Rattle.registry_calls.specs.Error.{is_memory}
 use Rattle.registry_calls.specs.Clients.{Client, ClientMeets}
@@ -24,12 +24,12 @@ pub at_next : {A : Type 0} (xs : List A) (i : ℕ) (x : A) → i < length xs →
 at_next {A} xs i x lt is = rw add-one (drop-cons xs i x lt ∙ ap (λ (y : A). y ∷ drop (suc i) xs) (sym is))
 
 pub layers_end : {s : Settings} (moment : ℕ) (source : Reference) (xs : List OciDescriptor) (layers : List ImageLayer) {c : Client} {link : Link} → xs ≡ [] → ClientMeets is_memory s (layers_row (within s moment) source xs layers) c c link link (Ok layers)
-unfolding layers_row
+unfolding layers_by
 layers_end moment source xs layers h = rw h done
 
 pub layers_next : {s : Settings} (moment : ℕ) (source : Reference) (xs : List OciDescriptor) (i : ℕ) (x : OciDescriptor) (layers : List ImageLayer) {c e : Client} {old new : Link} {r : Result (List ImageLayer) SigstoreError} → i < length xs → x ≡ get_or xs i x
     → ClientMeets is_memory s (blob_call (within s moment) source (described x) >>= (λ content. layers_row (within s moment) source (drop (i + 1) xs) (layers ++ layer_of x content ∷ []))) c e old new r → ClientMeets is_memory s (layers_row (within s moment) source (drop i xs) layers) c e old new r
-unfolding layers_row
+unfolding layers_by
 layers_next moment source xs i x layers lt is rest = rw (at_next xs i x lt is) rest
 
 -- ---- the parts of the descriptors

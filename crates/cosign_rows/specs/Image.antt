@@ -6,9 +6,9 @@ use Rattle.oci_auth.specs.declared.auth.RegistryAuth.{RegistryAuth}
 use Rattle.oci_digests.specs.Checks.{checked}
 use Rattle.oci_manifests.specs.declared.document.OciManifest.{OciManifest}
 use Rattle.oci_manifests.specs.declared.document.OciManifest.TheVariants.{Image, ImageIndex}
-use Rattle.oci_descriptors.specs.declared.index_entry.ImageIndexEntry.{ImageIndexEntry}
+use Rattle.oci_manifests.specs.declared.index_entry.ImageIndexEntry.{ImageIndexEntry}
 use Rattle.oci_manifests.specs.declared.manifest.OciImageManifest.{OciImageManifest}
-use Rattle.oci_descriptors.specs.declared.descriptor.OciDescriptor.{OciDescriptor}
+use Rattle.oci_manifests.specs.declared.descriptor.OciDescriptor.{OciDescriptor}
 use Rattle.oci_manifests.specs.declared.blob.Config.{Config}
 use Rattle.oci_manifests.specs.declared.blob.ImageLayer.{ImageLayer}
 use Rattle.oci_protocol.specs.Proto.{Done, bind, ◌>>=◌, ◌>>◌}
@@ -20,7 +20,7 @@ use Rattle.engine_requests.specs.Requests.{manifest_types}
 use Rattle.engine_answers.specs.Documents.{document_read}
 use Rattle.engine_requests.specs.Sources.{described}
 use Rattle.engine_answers.specs.Index.{entry_found, entry_manifest, entry_reference}
-use Rattle.engine_rows.specs.Image.{layers_accepted, layer_of, config_of}
+use Rattle.engine_rows.specs.Image.{layers_accepted, layers_by, config_of}
 use Rattle.registry_calls.specs.declared.error.SigstoreError.{SigstoreError}
 use Rattle.registry_calls.specs.declared.error.SigstoreError.TheVariants as sigstore
 use Rattle.registry_calls.specs.ErrorContext.{with_error_context}
@@ -44,11 +44,8 @@ abbrev pub entry_in : List ℕ → List ℕ → Result OciImageManifest OciDistr
 entry_in entry bytes = document_read bytes before entry_manifest entry
 
 -- each descriptor's blob, in order
-unfoldable pub layers_row : Context → Reference → List OciDescriptor → List ImageLayer → Row (List ImageLayer)
-layers_row s source [] layers = Done (Ok layers)
-layers_row s source (x ∷ xs) layers = do
-  content ← blob_call s source (described x)
-  layers_row s source xs (layers ++ layer_of x content ∷ [])
+abbrev pub layers_row : Context → Reference → List OciDescriptor → List ImageLayer → Row (List ImageLayer)
+layers_row s source = layers_by (λ x. blob_call s source (described x))
 
 -- the configuration and the layers that a manifest names, if the layers' media types are accepted
 unfoldable pub blobs_row : Context → Reference → List (List ℕ) → OciImageManifest → Row (Config × List ImageLayer)

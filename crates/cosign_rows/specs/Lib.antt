@@ -1,9 +1,15 @@
+pub mod Again
+pub mod Blobs
 pub mod Causes
 pub mod DigestStep
+pub mod DocumentCauses
+pub mod DocumentsSound
 pub mod Image
 pub mod Part
 pub mod References
 pub mod Refusal
+pub mod Rows
+pub mod Same
 pub mod Search
 pub mod Skips
 pub mod Snapshots

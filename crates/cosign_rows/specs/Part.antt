@@ -3,7 +3,7 @@ use Rattle.std.specs.Prelude.{ℕ, List, [], ◌∷◌, ◌++◌, find, Option, 
 use Rattle.std.specs.FinMap as map_of
 use Rattle.oci_digests.specs.Names.{names, digest_text}
 use Rattle.oci_names.specs.declared.algorithm.Algorithm.TheVariants.{Sha256}
-use Rattle.oci_descriptors.specs.declared.descriptor.OciDescriptor.{OciDescriptor}
+use Rattle.oci_manifests.specs.declared.descriptor.OciDescriptor.{OciDescriptor}
 use Rattle.oci_manifests.specs.declared.blob.ImageLayer.{ImageLayer}
 use Rattle.cosign_layers.specs.Checks.{input, layer_read}
 use Rattle.cosign_parts.specs.Trust.{Trust}

@@ -3,15 +3,15 @@ use Rattle.std.specs.Prelude.{ℕ, List, [], Option, Some, None, Result, Ok, Err
 use Rattle.std.specs.Str.{is_utf8}
 use Rattle.oci_manifests.specs.declared.document.OciManifest.{OciManifest}
 use Rattle.oci_manifests.specs.declared.document.OciManifest.TheVariants.{Image, ImageIndex}
-use Rattle.oci_descriptors.specs.declared.index_entry.ImageIndexEntry.{ImageIndexEntry}
+use Rattle.oci_manifests.specs.declared.index_entry.ImageIndexEntry.{ImageIndexEntry}
 use Rattle.oci_manifests.specs.declared.manifest.OciImageManifest.{OciImageManifest}
 use Rattle.oci_names.specs.declared.reference.Reference.{Reference}
 use Rattle.oci_names.specs.Reference.{registry_of, mirror_of, repository_of}
 use Rattle.engine_terms.specs.declared.error.GenericCause.TheVariants.{ConfigNotText}
 use Rattle.engine_terms.specs.declared.error.OciDistributionError.{OciDistributionError}
 use Rattle.engine_terms.specs.declared.error.OciDistributionError.TheVariants as refusal
-use Rattle.oci_descriptors.specs.Promise.{resolved, lists}
-use Rattle.oci_descriptors.specs.declared.promise.ResolverPromise.{ResolverPromise}
+use Rattle.oci_manifests.specs.Promise.{resolved, lists}
+use Rattle.oci_manifests.specs.declared.promise.ResolverPromise.{ResolverPromise}
 
 -- the digest that the resolver returned, which must be an entry's
 abbrev pub entry_named : List ImageIndexEntry → Option (List ℕ) → Result (List ℕ) OciDistributionError

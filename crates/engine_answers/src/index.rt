@@ -1,6 +1,6 @@
 // Selects the image of an index.
 ghost use Rattle.std.specs.Prelude.{◌≡◌, IfOk};
-ghost use Rattle.oci_descriptors.specs.Promise.{lists};
+ghost use Rattle.oci_manifests.specs.Promise.{lists};
 ghost use Rattle.json_values.specs.Refusals.{Matches};
 ghost use Rattle.engine_terms.specs.Error.{is_memory};
 ghost use Rattle.engine_answers.specs.Index.{entry_named, entry_found, entry_manifest};
@@ -8,8 +8,7 @@ ghost use Rattle.engine_answers.specs.Index.{entry_reference, config_text};
 
 use engine_terms::{GenericCause, OciDistributionError};
 use json_values::{Blob, Text};
-use oci_descriptors::{ImageIndexEntry, PlatformResolver};
-use oci_manifests::{OciImageManifest, OciManifest};
+use oci_manifests::{ImageIndexEntry, OciImageManifest, OciManifest, PlatformResolver};
 use oci_names::Reference;
 use std::alloc::{AllocError, Global};
 

@@ -11,8 +11,7 @@ use crate::answers::{Got, accepted};
 use crate::documents::tables_read;
 use engine_terms::{OciDistributionError, SpecViolation};
 use json_values::{Blob, Copied, List, Text, read_json};
-use oci_descriptors::{ImageIndexEntry, OCI_IMAGE_INDEX_MEDIA_TYPE};
-use oci_manifests::{OciImageIndex, OciManifest};
+use oci_manifests::{ImageIndexEntry, OCI_IMAGE_INDEX_MEDIA_TYPE, OciImageIndex, OciManifest};
 use oci_names::Reference;
 use std::alloc::{AllocError, Global};
 

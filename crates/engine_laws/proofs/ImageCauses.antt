@@ -6,7 +6,7 @@ use Rattle.std.specs.Str.{is_utf8}
 use Rattle.oci_transport.specs.declared.message.Exchange.{Exchange}
 use Rattle.oci_names.specs.declared.reference.Reference.{Reference}
 use Rattle.oci_manifests.specs.declared.manifest.OciImageManifest.{OciImageManifest}
-use Rattle.oci_descriptors.specs.declared.descriptor.OciDescriptor.{OciDescriptor}
+use Rattle.oci_manifests.specs.declared.descriptor.OciDescriptor.{OciDescriptor}
 use Rattle.oci_manifests.specs.declared.blob.ImageLayer.{ImageLayer}
 use Rattle.oci_auth.specs.declared.auth.RegistryAuth.{RegistryAuth}
 use Rattle.oci_protocol.specs.Proto.{Done, ◌>>=◌, ◌>>◌}
@@ -24,7 +24,7 @@ use Rattle.engine_rows.specs.Blobs.{IntoMemory}
 use Rattle.engine_rows.specs.Rows.{Row}
 use Rattle.engine_rows.specs.Pulls.{held_blob}
 use Rattle.engine_rows.specs.Manifests.{pull_image_manifest_and_list_digest, pull_manifest_and_config_and_list_digest, pull_manifest_and_config}
-use Rattle.engine_rows.specs.Image.{is_accepted, all_accepted, layers_accepted, layer_of, config_of, pull_layers, pull}
+use Rattle.engine_rows.specs.Image.{is_accepted, all_accepted, layers_accepted, layer_of, layers_by, config_of, pull_layers, pull}
 use Rattle.engine_rows.specs.declared.image.ImageData.{ImageData}
 use Rattle.engine_rows.specs.Answered.{LastBody}
 use Rattle.engine_rows.specs.Causes.{BlobUrl, ImageUrl, FoundUrl, FoundDigest, AnswerCause, DocumentCause, AskedDigest, ManifestRead, ReadDescriptor, ImageDigest, IndexCause, ConfigCause, ImageCause}
@@ -64,7 +64,7 @@ rest_where s image x xs m start o c d (Ok layers) h = tt
 rest_where s image x xs m start o c d (Err e) h = record { x = h.x; contains = contains_rest x h.x xs h.contains; cause = blob_later (BlobUrl s image (described h.x)) IntoMemory s h.x.digest o c d e h.cause }
 
 layers_causes : (s : Context) (image : Reference) (xs : List OciDescriptor) (layers : List ImageLayer) → EveryRun (ByResult AnyLayers (Layers s.settings image xs)) (pull_layers s image xs layers)
-unfolding pull_layers
+unfolding layers_by
 layers_causes s image [] layers = EveryRun-done (ByResult AnyLayers (Layers s.settings image [])) (Ok layers) (λ m. tt)
 layers_causes s image (x ∷ xs) layers = EveryRun-each (λ m c n bytes. Unit {0}) AnyLayers (Layers s.settings image (x ∷ xs)) (held_blob s image (described x)) (λ content. pull_layers s image xs (layers ++ layer_of x content ∷ []))
     (EveryRun-more (ByResult (λ m c n bytes. Unit {0}) (λ m c n e. LooseBlob (BlobUrl s.settings image (described x)) IntoMemory s.settings x.digest c n e)) (ByResult (λ m c n bytes. Unit {0}) (Layers s.settings image (x ∷ xs))) (held_blob s image (described x)) (blob_causes IntoMemory s image (described x)) (first_where s.settings image x xs))

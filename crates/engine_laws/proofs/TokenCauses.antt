@@ -14,7 +14,7 @@ use Rattle.oci_transport.specs.declared.message.Exchange.{Exchange}
 use Rattle.oci_transport.specs.declared.message.Method.{Method}
 use Rattle.oci_transport.specs.declared.message.Method.TheVariants.{Get}
 use Rattle.oci_names.specs.declared.reference.Reference.{Reference}
-use Rattle.http_challenges.specs.declared.bearer.BearerChallenge.{BearerChallenge}
+use Rattle.oci_auth.specs.declared.bearer.BearerChallenge.{BearerChallenge}
 use Rattle.oci_auth.specs.Cache.{key_of}
 use Rattle.oci_auth.specs.Auth.{own_token, unasked, authorization_of}
 use Rattle.oci_auth.specs.Kept.{Key}

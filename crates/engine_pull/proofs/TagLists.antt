@@ -19,7 +19,8 @@ use Rattle.engine_answers.specs.Referrers.{referrers_in, tagged_index}
 use Rattle.engine_answers.specs.declared.answers.Got.{Got}
 use Rattle.engine_rows.specs.Referrers.{referrers_tagged, referrers_by}
 use Rattle.engine_rows.specs.Rows.{Row}
-use Rattle.engine_rows.proofs.Exits.{caught, caught_refusal, said}
+use Rattle.oci_protocol.proofs.Exits.{said}
+use Rattle.engine_rows.proofs.Exits.{caught, caught_refusal}
 
 memory_is : (e : OciDistributionError) → is_memory e ≡ true → e ≡ refusal.WantOfMemory
 memory_is refusal.WantOfMemory is = refl

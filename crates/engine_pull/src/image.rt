@@ -9,15 +9,14 @@ ghost use Rattle.engine_rows.specs.Rows.{Row};
 ghost use Rattle.engine_rows.specs.declared.image.ImageData.{ImageData as ImageOf};
 
 use crate::manifests::pull_image_manifest_and_list_digest;
-use engine_blobs::pulled_blob;
+use crate::pulled_blob;
 use engine_requests::AsLayerDescriptor;
 use engine_rows::{ImageData, config_of, layer_of, layers_accepted};
 use engine_terms::{Call, OciDistributionError};
 use json_values::{List, Text};
 use oci_auth::{AuthState, RegistryAuth};
-use oci_descriptors::OciDescriptor;
 use oci_manifests::blob::Config;
-use oci_manifests::{ImageLayer, OciImageManifest};
+use oci_manifests::{ImageLayer, OciDescriptor, OciImageManifest};
 use oci_transport::Transport;
 use std::alloc::Global;
 

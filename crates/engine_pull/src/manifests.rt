@@ -9,8 +9,8 @@ ghost use Rattle.engine_rows.specs.Manifests.{pull_image_manifest_and_list_diges
 ghost use Rattle.engine_rows.specs.Manifests.{pull_manifest_and_config_and_list_digest};
 
 use crate::documents::pull_manifest;
+use crate::pulled_blob;
 use engine_answers::{config_text, entry_found, entry_manifest, entry_reference};
-use engine_blobs::pulled_blob;
 use engine_requests::AsLayerDescriptor;
 use engine_terms::{Call, OciDistributionError};
 use json_values::Text;

@@ -14,7 +14,8 @@ use Rattle.engine_terms.specs.declared.error.OciDistributionError.TheVariants as
 use Rattle.engine_rows.specs.Rows.{Row}
 use Rattle.engine_terms.specs.Contexts.{Context}
 use Rattle.engine_terms.specs.declared.error.GenericCause.TheVariants.{SizeDiffers}
-use Rattle.engine_rows.proofs.Exits.{said, done, caught, caught_refusal, caught_memory}
+use Rattle.oci_protocol.proofs.Exits.{said, done}
+use Rattle.engine_rows.proofs.Exits.{caught, caught_refusal, caught_memory}
 use Rattle.push_rows.specs.Calls.{not_empty, push_chunked, push_whole, is_violation, or_whole, push_blob, of_size, stream_whole, stream_chunked, push_blob_stream}
 
 empty_refused : (bytes : List ℕ) → length bytes ≡ 0 → not_empty bytes ≡ Err refusal.PushNoDataError

@@ -13,7 +13,8 @@ use Rattle.engine_terms.specs.Error.{is_memory}
 use Rattle.engine_terms.specs.declared.error.OciDistributionError.{OciDistributionError}
 use Rattle.engine_terms.specs.declared.error.OciDistributionError.TheVariants as refusal
 use Rattle.engine_rows.specs.Rows.{Row}
-use Rattle.engine_rows.proofs.Exits.{refused, wanting, and_then, done}
+use Rattle.oci_protocol.proofs.Exits.{refused, and_then, done}
+use Rattle.engine_rows.proofs.Exits.{wanting}
 use Rattle.push_rows.specs.Uploads.{chunk_size, first_chunks, chunks, chunk_sent, chunks_sent}
 use Rattle.push_rows.specs.PieceStates.{part}
 use Rattle.push_rows.proofs.Carried.{Carries, CarriesFront, carries_none, carries_more, carries_front, front_behind_more, front_of_more, dropped_fewer}

@@ -25,7 +25,7 @@ use Rattle.engine_terms.specs.declared.error.OciDistributionError.{OciDistributi
 use Rattle.engine_terms.specs.declared.error.OciDistributionError.TheVariants as refusal
 use Rattle.engine_terms.specs.declared.settings.Settings.{Settings}
 use Rattle.engine_answers.specs.Answers.{is_success}
-use Rattle.engine_rows.proofs.Exits.{said}
+use Rattle.oci_protocol.proofs.Exits.{said}
 use Rattle.push_rows.specs.Bodies.{bodies, IsPrefix, Sends}
 use Rattle.push_rows.specs.PieceStates.{part}
 use Rattle.push_rows.specs.Contents.{bytes_of, with_fields, with_content}

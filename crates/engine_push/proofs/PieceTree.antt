@@ -21,7 +21,8 @@ use Rattle.engine_terms.specs.Error.{is_memory}
 use Rattle.engine_terms.specs.declared.error.OciDistributionError.{OciDistributionError}
 use Rattle.engine_terms.specs.declared.error.OciDistributionError.TheVariants as refusal
 use Rattle.engine_rows.specs.Rows.{Row}
-use Rattle.engine_rows.proofs.Exits.{refused, wanting, and_then, said, done}
+use Rattle.oci_protocol.proofs.Exits.{refused, and_then, said, done}
+use Rattle.engine_rows.proofs.Exits.{wanting}
 use Rattle.push_rows.specs.Bodies.{bodies, IsPrefix}
 use Rattle.engine_terms.specs.declared.error.GenericCause.TheVariants.{NoSize, SizeDiffers}
 use Rattle.oci_transport.specs.declared.message.Exchange.{Exchange}

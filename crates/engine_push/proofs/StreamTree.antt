@@ -21,7 +21,7 @@ use Rattle.engine_terms.specs.declared.error.GenericCause.TheVariants.{NoSize}
 use Rattle.engine_terms.specs.declared.error.OciDistributionError.{OciDistributionError}
 use Rattle.engine_terms.specs.declared.error.OciDistributionError.TheVariants as refusal
 use Rattle.engine_rows.specs.Rows.{Row}
-use Rattle.engine_rows.proofs.Exits.{refused, and_then, said, done}
+use Rattle.oci_protocol.proofs.Exits.{refused, and_then, said, done}
 use Rattle.push_rows.specs.Bodies.{bodies, IsPrefix}
 use Rattle.push_rows.specs.Calls.{size_given, stream_sent, response_of}
 use Rattle.push_rows.specs.PieceStates.{PieceState, Takes, TakesPieces, part}

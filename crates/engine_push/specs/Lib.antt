@@ -1,2 +1,3 @@
 pub mod MemoryPieces
+pub mod Plans
 pub mod Sources

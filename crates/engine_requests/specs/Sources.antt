@@ -5,7 +5,7 @@ use Rattle.std.specs.Prelude.{option_copied, unwrap_or, if◌then◌else◌}
 use Rattle.url.specs.Parts.{Parts}
 use Rattle.url.specs.Input.{is_empty}
 use Rattle.url.specs.Parser.{Parsed, parse_url}
-use Rattle.oci_descriptors.specs.declared.descriptor.OciDescriptor.{OciDescriptor}
+use Rattle.oci_manifests.specs.declared.descriptor.OciDescriptor.{OciDescriptor}
 use Rattle.oci_transport.specs.declared.message.Method.TheVariants.{Get}
 use Rattle.oci_transport.specs.declared.message.Request.{Request}
 use Rattle.engine_requests.specs.Requests.{manifest_types, request_of}

@@ -2,9 +2,9 @@
 use Rattle.std.specs.Prelude.{ℕ, List, [], ◌∷◌, ◌++◌, Option, Some, None, Result, Ok, Err, codes, nat_eq, if◌then◌else◌}
 use Rattle.url.specs.Parts.{Parts}
 use Rattle.url.specs.Setters.{append_query_pairs}
-use Rattle.http_challenges.specs.Bearer.{in_header}
-use Rattle.http_challenges.specs.declared.bearer.BearerChallenge.{BearerChallenge}
-use Rattle.http_challenges.specs.declared.bearer.ChallengeError.{ChallengeError}
+use Rattle.oci_auth.specs.Bearer.{in_header}
+use Rattle.oci_auth.specs.declared.bearer.BearerChallenge.{BearerChallenge}
+use Rattle.oci_auth.specs.declared.bearer.ChallengeError.{ChallengeError}
 use Rattle.oci_names.specs.declared.reference.Reference.{Reference}
 use Rattle.oci_names.specs.Reference.{repository_of}
 use Rattle.oci_auth.specs.Auth.{own_token}

@@ -7,7 +7,7 @@ ghost use Rattle.engine_requests.specs.Sources.{by_scheme, place_of, asked_at};
 use crate::requests::{MANIFEST_TYPES, request_of};
 use engine_terms::{OciDistributionError, Settings};
 use json_values::{List, Text};
-use oci_descriptors::OciDescriptor;
+use oci_manifests::OciDescriptor;
 use oci_transport::{Method, Request};
 use std::alloc::{AllocError, Global};
 use url::{ParseError, Url};

@@ -10,9 +10,11 @@ ghost use Rattle.engine_requests.specs.Tokens.{token_read};
 
 use crate::requests::request_of;
 use engine_terms::{OciDistributionError, Settings, TokenBody};
-use http_challenges::{BearerChallenge, ChallengeError};
 use json_values::{Blob, Text};
-use oci_auth::{RegistryAuth, RegistryOperation, RegistryToken, RegistryTokenType, TokenError};
+use oci_auth::{
+    BearerChallenge, ChallengeError, RegistryAuth, RegistryOperation, RegistryToken,
+    RegistryTokenType, TokenError,
+};
 use oci_names::Reference;
 use oci_transport::{Answer, AnswerHead, Method, Request};
 use std::alloc::{AllocError, Global};

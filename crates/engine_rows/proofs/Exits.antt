@@ -1,17 +1,16 @@
--- The exits of a function, as steps of its row.
+-- The exits of a function of the engine, as steps of its row, beside those of any row.
 use Rattle.std.proofs.Common.{◌≡◌, ℕ, List, Option, Result, Ok, Err, Some, None, refl, ◌∙◌, Bool, true, false}
 use Rattle.std.specs.Prelude.{MatchBool}
 use Rattle.std.specs.Result.{IsErrAnd}
-use Rattle.std.proofs.lemmas.Result.{err_from_is_err_and}
 use Rattle.oci_transport.specs.Link.{Link}
 use Rattle.oci_protocol.specs.Proto.{Done, Recall, Keep, bind, ◌>>=◌}
 use Rattle.oci_transport.specs.declared.message.Exchange.{Exchange}
 use Rattle.oci_protocol.specs.Runs.{Meets, PerformsPrefix, Performs, Told, Outcome}
-use Rattle.oci_protocol.proofs.Laws.{Meets-next, Meets-refused, Meets-ok, Meets-memory, Meets-recall, Meets-keep, PerformsPrefix-start, PerformsPrefix-first, Performs-done, Meets-caught}
+use Rattle.oci_protocol.proofs.Exits.{and_then, done, wanting as wanting_by}
+use Rattle.oci_protocol.proofs.Laws.{Meets-next, Meets-ok, Meets-recall, Meets-keep, PerformsPrefix-first, Meets-caught}
 use Rattle.engine_terms.specs.declared.error.OciDistributionError.{OciDistributionError}
 use Rattle.engine_terms.specs.declared.error.OciDistributionError.TheVariants as refusal
 use Rattle.oci_auth.specs.declared.auth_state.AuthState.{AuthState}
-use Rattle.json_values.specs.Refusals.{Matches}
 use Rattle.engine_terms.specs.Error.{is_memory}
 use Rattle.engine_rows.specs.Rows.{Row, recalled as recall, keep, passed_over, store, with_kept, taken, shown_text, kept_text}
 use Rattle.oci_auth.specs.declared.auth.RegistryAuth.{RegistryAuth}
@@ -23,39 +22,18 @@ use Rattle.oci_auth.specs.Kept.{Key}
 use Rattle.oci_auth.specs.declared.cache.TokenCache.{TokenCache}
 use Rattle.oci_auth.specs.declared.token_type.RegistryTokenType.{RegistryTokenType}
 
--- a step that returned an error, at the exit of a `?`
-pub refused : {A B : Type 0} {p : Row A} (f : A → Row B) {old new : Link} {k l : AuthState} {e : OciDistributionError} {r : Result B OciDistributionError}
-    → Meets is_memory p old new k l (Err e) → IsErrAnd r (λ x. x ≡ e) → Meets is_memory (p >>= f) old new k l r
-refused f {r} h is = let at = err_from_is_err_and r is in rw (at.1, at.2) (Meets-refused f h)
-
 -- memory ran out between two requests
 pub wanting : {A : Type 0} {p : Row A} {link : Link} {k : AuthState} {r : Result A OciDistributionError} → IsErrAnd r (λ x. x ≡ refusal.WantOfMemory) → Meets is_memory p link link k k r
-wanting {p} {link} {k} {r} is = let at = err_from_is_err_and r is in rw (at.1, at.2) (Meets-memory is_memory p link k refusal.WantOfMemory refl)
-
-pub and_then : {A B : Type 0} {p : Row A} (f : A → Row B) {old mid new : Link} {k l j : AuthState} {a : A} {r : Result B OciDistributionError}
-    → Meets is_memory p old mid k l (Ok a) → Meets is_memory (f a) mid new l j r → Meets is_memory (p >>= f) old new k j r
-and_then f first second = Meets-next f first second
+wanting is = wanting_by refusal.WantOfMemory refl is
 
 -- a row that continues by the client state
 pub recalled : {B : Type 0} (f : AuthState → Row B) {old new : Link} {k j : AuthState} {r : Result B OciDistributionError}
     → Meets is_memory (f k) old new k j r → Meets is_memory (recall >>= f) old new k j r
 recalled f {old} {k} h = Meets-next f (Meets-recall (λ k. Done (Ok k)) (Meets-ok is_memory old k k)) h
 
--- a result without a request
-pub done : {A : Type 0} {link : Link} {k : AuthState} {a : A} → Meets is_memory (Done (Ok a)) link link k k (Ok a)
-done {link} {k} {a} = Meets-ok is_memory link k a
-
 -- the client state is replaced, and nothing else happens
 pub keeps : {link : Link} {k l : AuthState} → Meets is_memory (keep l) link link k l (Ok tt)
 keeps {link} {k} {l} = Meets-keep l (Done (Ok tt)) (Meets-ok is_memory link l tt)
-
--- a step without a request
-pub said : {A : Type 0} (r : Result A OciDistributionError) {s : Result A OciDistributionError} {link : Link} {k : AuthState} → Matches is_memory r s → Meets is_memory (Done s) link link k k r
-said (Ok a) h = rw h done
-said {A} (Err e) {s} {link} {k} h = record { outcome = refusing (is_memory e) h } where
-  refusing : (b : Bool) → MatchBool b (Unit {0}) (s ≡ Err e) → MatchBool b (PerformsPrefix {A = Result A OciDistributionError} (Done s) link link k k) (Performs (Done s) link link k k (Err e))
-  refusing true h = PerformsPrefix-start (Done s) link k
-  refusing false h = rw h (Performs-done link k (Err e))
 
 -- a step whose result is inspected with its errors
 pub caught : {A B : Type 0} {p : Row A} (f : Result A OciDistributionError → Row B) {old mid new : Link} {k l j : AuthState} {a : A} {r : Result B OciDistributionError}
@@ -71,10 +49,6 @@ caught_refusal f other first second = Meets-caught f (rw other at first.outcome)
 pub caught_memory : {A B : Type 0} {p : Row A} (f : Result A OciDistributionError → Row B) {old new : Link} {k l : AuthState} {e : OciDistributionError}
     → is_memory e ≡ true → Meets is_memory p old new k l (Err e) → Meets is_memory (bind p f) old new k l (Err refusal.WantOfMemory)
 caught_memory f wanted first = record { outcome = PerformsPrefix-first f (rw wanted at first.outcome) }
-
--- a step that returned an error, as the last one
-pub passed_on : {A : Type 0} {p : Row A} {old new : Link} {k l : AuthState} {e : OciDistributionError} {r : Result A OciDistributionError} → Meets is_memory p old new k l (Err e) → IsErrAnd r (λ x. x ≡ e) → Meets is_memory p old new k l r
-passed_on {r} h is = let at = err_from_is_err_and r is in rw (at.1, at.2) h
 
 -- the client state is changed, and nothing else happens
 pub changes : {A : Type 0} (f : AuthState → AuthState) (a : A) (link : Link) (k : AuthState) → Meets is_memory (Recall (λ k. Keep (f k) (Done (Ok a)))) link link k (f k) (Ok a)

@@ -5,10 +5,10 @@ use Rattle.oci_auth.specs.declared.auth.RegistryAuth.{RegistryAuth}
 use Rattle.oci_manifests.specs.declared.document.OciManifest.{OciManifest}
 use Rattle.oci_manifests.specs.declared.document.OciManifest.TheVariants.{Image, ImageIndex}
 use Rattle.oci_manifests.specs.declared.manifest.OciImageManifest.{OciImageManifest}
-use Rattle.oci_descriptors.specs.declared.descriptor.OciDescriptor.{OciDescriptor}
+use Rattle.oci_manifests.specs.declared.descriptor.OciDescriptor.{OciDescriptor}
 use Rattle.oci_manifests.specs.declared.blob.ImageLayer.{ImageLayer}
 use Rattle.oci_manifests.specs.declared.blob.Config.{Config}
-use Rattle.oci_protocol.specs.Proto.{Done, ◌>>=◌, ◌>>◌}
+use Rattle.oci_protocol.specs.Proto.{Proto, Done, ◌>>=◌, ◌>>◌}
 use Rattle.engine_terms.specs.Contexts.{Context}
 use Rattle.engine_requests.specs.Sources.{described}
 use Rattle.engine_terms.specs.declared.error.OciDistributionError.{OciDistributionError}
@@ -51,12 +51,17 @@ config_of manifest content = record {
       manifest.annotations;
 }
 
--- each descriptor's blob, in order
-unfoldable pub pull_layers : Context → Reference → List OciDescriptor → List ImageLayer → Row (List ImageLayer)
-pull_layers s image [] layers = Done (Ok layers)
-pull_layers s image (x ∷ xs) layers = do
-  content ← held_blob s image (described x)
-  pull_layers s image xs (layers ++ layer_of x content ∷ [])
+-- each descriptor's blob by this call, in order, behind these layers
+unfoldable pub layers_by : {K E : Type 0} → (OciDescriptor → Proto K (Result (List ℕ) E)) → List OciDescriptor → List ImageLayer
+    → Proto K (Result (List ImageLayer) E)
+layers_by blob [] layers = Done (Ok layers)
+layers_by blob (x ∷ xs) layers = do
+  content ← blob x
+  layers_by blob xs (layers ++ layer_of x content ∷ [])
+
+-- each descriptor's blob, held in memory
+abbrev pub pull_layers : Context → Reference → List OciDescriptor → List ImageLayer → Row (List ImageLayer)
+pull_layers s image = layers_by (λ x. held_blob s image (described x))
 
 -- an image whose layers are of these types
 unfoldable pub pull : Context → Reference → RegistryAuth → List (List ℕ) → Row ImageData

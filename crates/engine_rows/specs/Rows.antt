@@ -21,7 +21,7 @@ use Rattle.oci_auth.specs.Token.{token_text}
 use Rattle.oci_auth.specs.declared.token_type.RegistryOperation.{RegistryOperation}
 use Rattle.oci_auth.specs.declared.token_type.RegistryTokenType.{RegistryTokenType}
 use Rattle.oci_auth.specs.declared.token_type.RegistryTokenType.TheVariants as token
-use Rattle.http_challenges.specs.declared.bearer.BearerChallenge.{BearerChallenge}
+use Rattle.oci_auth.specs.declared.bearer.BearerChallenge.{BearerChallenge}
 use Rattle.oci_protocol.specs.Proto.{Reading, Unread, Within, Reply, Headed, Answered, Failed, TooLong}
 use Rattle.oci_protocol.specs.Proto.{SinkFailed, read_within, read_none, Proto, Done, Recall, Keep, bind, ◌>>=◌, ◌>>◌}
 use Rattle.oci_protocol.specs.Follow.{follow}

@@ -9,7 +9,7 @@ use Rattle.oci_auth.specs.Auth.{own_token, authorization_of}
 use Rattle.oci_auth.specs.Token.{token_of}
 use Rattle.oci_auth.specs.declared.auth.RegistryAuth.{RegistryAuth}
 use Rattle.oci_auth.specs.declared.token_type.RegistryTokenType.{RegistryTokenType}
-use Rattle.http_challenges.specs.declared.bearer.BearerChallenge.{BearerChallenge}
+use Rattle.oci_auth.specs.declared.bearer.BearerChallenge.{BearerChallenge}
 use Rattle.oci_names.specs.declared.reference.Reference.{Reference}
 use Rattle.oci_protocol.specs.Runs.{head_part}
 use Rattle.engine_requests.specs.Addresses.{base_text}

@@ -7,9 +7,8 @@ ghost use Rattle.engine_rows.specs.Image.{layers_accepted, layer_of, config_of};
 
 use engine_terms::OciDistributionError;
 use json_values::{Blob, Copied, List, Text, copied, copy_all, row};
-use oci_descriptors::OciDescriptor;
 use oci_manifests::blob::Config;
-use oci_manifests::{ImageLayer, OciImageManifest, OciManifest};
+use oci_manifests::{ImageLayer, OciDescriptor, OciImageManifest, OciManifest};
 use std::alloc::{AllocError, Global};
 
 /// An image that was pulled.

@@ -22,7 +22,7 @@ use Rattle.engine_answers.specs.Answers.{header_digest}
 use Rattle.engine_rows.specs.declared.named.NamedAnswer.{NamedAnswer}
 use Rattle.engine_rows.specs.declared.named.NamedAnswer.TheVariants.{ByHeader}
 use Rattle.engine_rows.specs.Rows.{named_after, named_reading, reading_named, unread_named, read_named, named_reply}
-use Rattle.engine_rows.proofs.Exits.{said}
+use Rattle.oci_protocol.proofs.Exits.{said}
 
 -- the header names no digest, or one that is refused
 unread_met : (d e : Result (Option (List ℕ)) OciDistributionError) (r : Result NamedAnswer OciDistributionError) (link : Link) (k : AuthState) → d ≡ e → Matches is_memory r (unread_named e) → Meets is_memory (Done (unread_named d)) link link k k r

@@ -16,9 +16,8 @@ use engine_requests::{
     token_read,
 };
 use engine_terms::{Call, OciDistributionError};
-use http_challenges::BearerChallenge;
 use json_values::Copied;
-use oci_auth::{AuthState, RegistryAuth, RegistryOperation, RegistryTokenType};
+use oci_auth::{AuthState, BearerChallenge, RegistryAuth, RegistryOperation, RegistryTokenType};
 use oci_transport::{Method, Request, Transport, UrlError, request_url, targets};
 use std::alloc::{AllocError, Global};
 use url::Url;

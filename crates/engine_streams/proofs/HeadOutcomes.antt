@@ -17,7 +17,7 @@ use Rattle.engine_terms.specs.declared.error.OciDistributionError.TheVariants as
 use Rattle.json_values.specs.Refusals.{Matches}
 use Rattle.engine_terms.specs.Error.{is_memory}
 use Rattle.engine_answers.specs.Answers.{is_error}
-use Rattle.engine_rows.proofs.Exits.{said}
+use Rattle.oci_protocol.proofs.Exits.{said}
 use Rattle.engine_steps.proofs.HelperTrees.{reached_untaken}
 use Rattle.engine_streams.specs.Head.{opening, is_streamed}
 use Rattle.engine_streams.specs.Blobs.{Refuses, IsLeft}

@@ -17,7 +17,7 @@ use Rattle.engine_terms.specs.Error.{is_memory}
 use Rattle.engine_requests.specs.Sources.{place_of, with_place, places_of}
 use Rattle.engine_rows.specs.Rows.{Row}
 use Rattle.engine_rows.proofs.Exits.{meets_told}
-use Rattle.engine_rows.proofs.Exits.{and_then, refused, said, done}
+use Rattle.oci_protocol.proofs.Exits.{and_then, refused, said, done}
 use Rattle.engine_streams.specs.Blobs.{tried, IsLeft}
 use Rattle.engine_streams.specs.Asking.{asked, offered, ranged_at}
 use Rattle.engine_streams.specs.declared.head.Opening.{Opening}

@@ -12,7 +12,7 @@ use Rattle.engine_terms.specs.Error.{is_memory}
 use Rattle.engine_requests.specs.Sources.{Layer}
 use Rattle.engine_terms.specs.declared.error.OciDistributionError.{OciDistributionError}
 use Rattle.engine_rows.specs.Rows.{Row}
-use Rattle.engine_rows.proofs.Exits.{and_then, done}
+use Rattle.oci_protocol.proofs.Exits.{and_then, done}
 use Rattle.engine_streams.specs.Blobs.{opened, by_digests, blob_stream_partial, opening_in, response_of, response_in, IsLeft}
 use Rattle.engine_streams.specs.Streams.{opening_of}
 use Rattle.engine_streams.specs.declared.blobs.BlobResponse.{BlobResponse}

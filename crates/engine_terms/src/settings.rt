@@ -4,7 +4,7 @@ ghost use Rattle.engine_terms.specs.Settings.{is_listed, scheme_for};
 ghost use Rattle.engine_terms.specs.declared.settings.ClientProtocol.TheVariants.{Https as https_alone};
 
 use json_values::{Copied, List, Text, copied};
-use oci_descriptors::PlatformResolver;
+use oci_manifests::PlatformResolver;
 use std::alloc::{AllocError, Global};
 
 /// The scheme of a registry's URLs.

@@ -1,4 +1,4 @@
-// Bodies that are not read: of responses that are refused by their heads, and of those that are passed over.
+// Bodies that are not read: of responses that are refused by their heads, and of those that are skipped.
 ghost use Rattle.std.specs.Prelude.{IfOk};
 ghost use Rattle.oci_transport.specs.Pieces.{NoneEmpty};
 

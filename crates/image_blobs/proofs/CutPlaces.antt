@@ -23,12 +23,12 @@ use Rattle.engine_requests.specs.Requests.{manifest_types, request_of}
 use Rattle.engine_requests.specs.Sources.{place_of, with_place, places_of, asked_at}
 use Rattle.engine_rows.specs.Rows.{Row, goes_to}
 use Rattle.engine_rows.specs.Blobs.{MeetsIntoSink}
-use Rattle.engine_rows.proofs.Exits.{said}
-use Rattle.engine_blobs.proofs.AttemptSteps.{spills_next}
-use Rattle.engine_blobs.proofs.Layers.{at_next}
-use Rattle.engine_blobs.proofs.NoSink.{Calm, request_calm, done_calm, spills_refused}
-use Rattle.blob_laws.specs.Blobs.{sent_token}
-use Rattle.blob_laws.specs.Cut.{cut, cut_at}
+use Rattle.oci_protocol.proofs.Exits.{said}
+use Rattle.engine_pull.proofs.AttemptSteps.{spills_next}
+use Rattle.engine_pull.proofs.Layers.{at_next}
+use Rattle.engine_pull.proofs.NoSink.{Calm, request_calm, done_calm, spills_refused}
+use Rattle.call_laws.specs.Blobs.{sent_token}
+use Rattle.call_laws.specs.Cut.{cut, cut_at}
 
 places_last : (urls : List (List ℕ)) → urls ≡ [] → places_of urls ≡ []
 places_last urls is = rw is refl

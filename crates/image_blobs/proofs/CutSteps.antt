@@ -34,10 +34,10 @@ use Rattle.engine_answers.specs.Answers.{refused_answer, is_success, is_error}
 use Rattle.engine_answers.specs.Blobs.{digest_expected, given_expected, pouring, plan_by, planned, plan_of, compared, given_compared, both_compared, given_algorithm}
 use Rattle.engine_rows.specs.Rows.{Row}
 use Rattle.engine_rows.specs.Blobs.{IntoSink, reading_by, blob_reading, unread_by, read_by, blob_reply, MeetsIntoSink}
-use Rattle.engine_rows.proofs.Exits.{said}
-use Rattle.engine_blobs.proofs.AttemptSteps.{pours_success, spills_none, front_told}
+use Rattle.oci_protocol.proofs.Exits.{said}
+use Rattle.engine_pull.proofs.AttemptSteps.{pours_success, spills_none, front_told}
 use Rattle.image_blobs.proofs.SinkCalm.{answer_never, compared_never, later_front}
-use Rattle.blob_laws.specs.Cut.{most, instead, unread_before, or_row, cut_reading, cut_reply, cut}
+use Rattle.call_laws.specs.Cut.{most, instead, unread_before, or_row, cut_reading, cut_reply, cut}
 
 -- ---- a body that is read for its status is not that of a blob
 

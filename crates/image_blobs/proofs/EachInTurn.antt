@@ -8,7 +8,7 @@ use Rattle.oci_transport.specs.Link.{Link}
 use Rattle.oci_auth.specs.declared.auth_state.AuthState.{AuthState}
 use Rattle.oci_auth.specs.declared.token_type.RegistryTokenType.{RegistryTokenType}
 use Rattle.oci_names.specs.declared.reference.Reference.{Reference}
-use Rattle.oci_descriptors.specs.declared.descriptor.OciDescriptor.{OciDescriptor}
+use Rattle.oci_manifests.specs.declared.descriptor.OciDescriptor.{OciDescriptor}
 use Rattle.oci_protocol.specs.Proto.{Done, Consult, ◌>>=◌, ◌>>◌}
 use Rattle.oci_protocol.specs.Runs.{Meets}
 use Rattle.oci_protocol.proofs.Laws.{Meets-consult, Meets-refused, Meets-ok, Meets-err, Meets-memory}
@@ -19,9 +19,9 @@ use Rattle.engine_terms.specs.declared.error.OciDistributionError.{OciDistributi
 use Rattle.engine_terms.specs.declared.error.OciDistributionError.TheVariants as refusal
 use Rattle.engine_rows.specs.Blobs.{filled}
 use Rattle.engine_rows.specs.Rows.{Row}
-use Rattle.engine_rows.proofs.Exits.{and_then, done}
-use Rattle.engine_blobs.proofs.Layers.{at_next}
-use Rattle.blob_laws.specs.Blobs.{range_of, going_on, sinks_asked, blob_with, kept_blob, each_blob}
+use Rattle.oci_protocol.proofs.Exits.{and_then, done}
+use Rattle.engine_pull.proofs.Layers.{at_next}
+use Rattle.call_laws.specs.Blobs.{range_of, going_on, sinks_asked, blob_with, kept_blob, each_blob}
 use Rattle.image_blobs.specs.SinksState.{SinksState}
 use Rattle.image_blobs.specs.Taken.{IsAt, MeetsOne, MeetsIntoSinks, with_blobs, TookAll, TookSome, TookBlobs, refusal_of}
 use Rattle.image_blobs.proofs.SinksTaken.{took_none, took_next, took_stops}

@@ -14,7 +14,7 @@ use Rattle.oci_digests.specs.Checks.{named_algorithm}
 use Rattle.oci_digests.specs.Hashes.{hash_of}
 use Rattle.oci_digests.specs.Names.{Names, digest_text}
 use Rattle.oci_digests.proofs.Algorithms.{algorithm_named}
-use Rattle.oci_descriptors.specs.declared.descriptor.OciDescriptor.{OciDescriptor}
+use Rattle.oci_manifests.specs.declared.descriptor.OciDescriptor.{OciDescriptor}
 use Rattle.hex.specs.Hex.{encode_lower}
 use Rattle.image_blobs.specs.Checked.{Hashed, IsBlob, IsDigesterOf, Decided}
 
@@ -64,7 +64,7 @@ hashed_failed a b c so_far rose = omega (arith, so_far.count, rose)
 
 -- ---- the digest
 
--- a text that names bytes names their algorithm
+-- a digest that names bytes names their algorithm
 named_by_it : (text bytes : List ℕ) (n : Names text bytes) → named_algorithm text ≡ Ok n.0
 named_by_it text bytes n = ap named_algorithm n.1 ∙ algorithm_named n.0 (encode_lower (hash_of n.0 bytes))
 

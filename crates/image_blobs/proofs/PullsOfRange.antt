@@ -9,7 +9,7 @@ use Rattle.oci_auth.specs.declared.auth_state.AuthState.{AuthState}
 use Rattle.oci_auth.specs.declared.token_type.RegistryTokenType.{RegistryTokenType}
 use Rattle.oci_auth.specs.declared.token_type.RegistryOperation.TheVariants.{Pull}
 use Rattle.oci_names.specs.declared.reference.Reference.{Reference}
-use Rattle.oci_descriptors.specs.declared.descriptor.OciDescriptor.{OciDescriptor}
+use Rattle.oci_manifests.specs.declared.descriptor.OciDescriptor.{OciDescriptor}
 use Rattle.oci_protocol.specs.Proto.{Done, ◌>>=◌}
 use Rattle.oci_protocol.specs.Runs.{Meets, Told}
 use Rattle.oci_protocol.proofs.Laws.{Meets-refused}
@@ -24,12 +24,13 @@ use Rattle.engine_rows.specs.Rows.{Row, authorized}
 use Rattle.engine_rows.specs.Causes.{BadHeader}
 use Rattle.engine_rows.specs.Confined.{Within}
 use Rattle.engine_rows.specs.Held.{pulling}
-use Rattle.engine_rows.proofs.Exits.{and_then, done, said, meets_told}
-use Rattle.engine_blobs.proofs.NoSink.{Calm, read_calm}
-use Rattle.blob_laws.specs.Blobs.{range_of, each_blob, pull_blobs}
-use Rattle.blob_laws.specs.Causes.{BlobsCause}
-use Rattle.blob_laws.proofs.BlobsCauses.{blobs_reason, blobs_fault, token_never}
-use Rattle.blob_laws.proofs.BlobsConfined.{blobs_confined}
+use Rattle.oci_protocol.proofs.Exits.{and_then, done, said}
+use Rattle.engine_rows.proofs.Exits.{meets_told}
+use Rattle.engine_pull.proofs.NoSink.{Calm, read_calm}
+use Rattle.call_laws.specs.Blobs.{range_of, each_blob, pull_blobs}
+use Rattle.call_laws.specs.Causes.{BlobsCause}
+use Rattle.call_laws.proofs.BlobsCauses.{blobs_reason, blobs_fault, token_never}
+use Rattle.call_laws.proofs.BlobsConfined.{blobs_confined}
 use Rattle.image_blobs.specs.SinksState.{SinksState}
 use Rattle.image_blobs.specs.Taken.{IsAt, MeetsIntoSinks, TookSome, TookBlobs, with_blobs, RefusedFor, FaultCounted}
 use Rattle.image_blobs.proofs.EachInTurn.{range_next}
@@ -99,7 +100,7 @@ module _ (s : Context) (image : Reference) (ds : List OciDescriptor) (first end 
   pub each_took : (fresh : SinkState) (registry : Parts) (token : Option RegistryTokenType) (r : Result Unit OciDistributionError) (old mid new : Link) (k l : AuthState) (before after : SinksState) → Meets is_memory (authorized s image Pull registry) old mid k l (Ok token) → TookBlobs fresh (range_of first end ds) mid new before after r → TookBlobs fresh (range_of first end ds) old new before after r
   each_took fresh registry token r old mid new k l before after met took = took_after fresh (range_of first end ds) old mid new before after r (meets_told (λ c. Unit {0}) (λ c. tt) met) took
 
--- a URL that is not one, or a refusal of the token step, is no fault of the sinks
+-- a URL that is not one, or a refusal of the token step, is not a fault of the sinks
 pub url_counted : (text : List ℕ) (e : OciDistributionError) (P : Type 0) → Matches {A = Parts} is_memory (Err e) (url_read text) → ◌≡◌ {A = Result Unit OciDistributionError} (Err e) (Err refusal.SinkFault) → P
 url_counted text e P says h = never (read_calm text) (rw (sink h) at says) where
   sink : ◌≡◌ {A = Result Unit OciDistributionError} (Err e) (Err refusal.SinkFault) → e ≡ refusal.SinkFault

@@ -4,15 +4,15 @@ use Rattle.json_values.specs.Counts.{Increased}
 use Rattle.byte_streams.specs.SinkState.{SinkState, Adds}
 use Rattle.oci_transport.specs.Link.{Link}
 use Rattle.oci_transport.specs.declared.message.Exchange.{Exchange}
-use Rattle.oci_descriptors.specs.declared.descriptor.OciDescriptor.{OciDescriptor}
+use Rattle.oci_manifests.specs.declared.descriptor.OciDescriptor.{OciDescriptor}
 use Rattle.oci_protocol.specs.Runs.{Told}
 use Rattle.oci_protocol.proofs.Conversations.{Extends-more, Extends-none}
 use Rattle.engine_terms.specs.declared.error.OciDistributionError.{OciDistributionError}
 use Rattle.engine_rows.specs.Answered.{Body}
 use Rattle.engine_rows.specs.Blobs.{IsPrefix}
 use Rattle.request_laws.proofs.DocumentAnswers.{body_after}
-use Rattle.blob_laws.specs.Cut.{size_of}
-use Rattle.blob_laws.specs.Taken.{IsBlobOf}
+use Rattle.call_laws.specs.Cut.{size_of}
+use Rattle.call_laws.specs.Taken.{IsBlobOf}
 use Rattle.image_blobs.specs.SinksState.{Closed, SinksState, Closes, closing}
 use Rattle.image_blobs.specs.Taken.{AddsWithin, IsFront, IsFrontOrNone, Stands, Falls, EachStands, MayFall, TookAll, TookSome, TookBlobs}
 
@@ -69,7 +69,7 @@ falls_more fresh c (x ∷ xs) ys (z ∷ []) h = h
 falls_more fresh c [] ys (z ∷ zs) h = absurd h
 falls_more fresh c (x ∷ xs) ys (z ∷ (w ∷ zs)) h = absurd h
 
--- ---- what was told of two steps
+-- ---- what was exposed of two steps
 
 told_both : {P Q R : List Exchange → Type 0} {a b d : Link} → ((x y : List Exchange) → P x → Q y → R (x ++ y)) → Told P a b → Told Q b d → Told R a d
 told_both {a = a} {b = b} {d = d} both p q = record { conversation = p.conversation ++ q.conversation; told = Extends-more a b d p.conversation q.conversation p.told q.told; holds = both p.conversation q.conversation p.holds q.holds }

@@ -2,8 +2,8 @@
 use Rattle.std.proofs.Common.{◌≡◌, ◌≤◌, ◌<◌, ◌-◌, ℕ, zero, suc, List, [], ◌∷◌, ◌++◌, Option, Some, Ok, Contains, length, take, drop, refl, sym, ap, subst, ◌∙◌, arith, append_assoc}
 use Rattle.std.proofs.lemmas.List.{take_all}
 use Rattle.byte_streams.specs.SinkState.{SinkState}
-use Rattle.oci_descriptors.specs.declared.descriptor.OciDescriptor.{OciDescriptor}
-use Rattle.oci_descriptors.specs.declared.promise.ResolverPromise.{ResolverPromise}
+use Rattle.oci_manifests.specs.declared.descriptor.OciDescriptor.{OciDescriptor}
+use Rattle.oci_manifests.specs.declared.promise.ResolverPromise.{ResolverPromise}
 use Rattle.oci_manifests.specs.declared.blob.ImageLayer.{ImageLayer}
 use Rattle.oci_names.specs.declared.reference.Reference.{Reference}
 use Rattle.oci_transport.specs.Link.{Link}
@@ -11,11 +11,11 @@ use Rattle.oci_transport.specs.declared.message.Exchange.{Exchange}
 use Rattle.engine_rows.specs.Image.{layer_of, config_of}
 use Rattle.cosign_chain.specs.Chain.{LayersLink}
 use Rattle.cosign_chain.specs.declared.image.VerifiedImage.{VerifiedImage}
-use Rattle.cosign_documents.specs.Documents.{Documents}
-use Rattle.cosign_documents.specs.declared.documents.VerifiedDocuments.{VerifiedDocuments}
-use Rattle.cosign_documents.proofs.Images.{blobs_chain}
+use Rattle.cosign_chain.specs.VerifiedDocuments.{Documents}
+use Rattle.cosign_chain.specs.declared.verified_documents.VerifiedDocuments.{VerifiedDocuments}
+use Rattle.cosign_chain.proofs.Images.{blobs_chain}
 use Rattle.cosign_layers.specs.Satisfying.{PolicyContext}
-use Rattle.blob_laws.specs.Blobs.{descriptors_of, range_of}
+use Rattle.call_laws.specs.Blobs.{descriptors_of, range_of}
 use Rattle.image_blobs.specs.Images.{EachHasBlob, HasBlobs, EachTook, contents_of, blobs_of, AreAccepted, TakenImage}
 use Rattle.image_blobs.specs.SinksState.{Closed, SinksState, Closes}
 use Rattle.image_blobs.specs.Taken.{EachStands, TookBlobs}

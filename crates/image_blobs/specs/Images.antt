@@ -1,20 +1,20 @@
 -- The image that documents and the blobs of their descriptors are: sinks that took the blobs of one range after another.
 use Rattle.std.specs.Prelude.{◌≡◌, ◌≤◌, ◌<◌, ℕ, List, [], ◌∷◌, length, Option, Ok, Contains}
 use Rattle.byte_streams.specs.SinkState.{SinkState, Adds}
-use Rattle.oci_descriptors.specs.declared.descriptor.OciDescriptor.{OciDescriptor}
-use Rattle.oci_descriptors.specs.declared.promise.ResolverPromise.{ResolverPromise}
+use Rattle.oci_manifests.specs.declared.descriptor.OciDescriptor.{OciDescriptor}
+use Rattle.oci_manifests.specs.declared.promise.ResolverPromise.{ResolverPromise}
 use Rattle.oci_manifests.specs.declared.blob.ImageLayer.{ImageLayer}
 use Rattle.oci_names.specs.declared.reference.Reference.{Reference}
 use Rattle.oci_transport.specs.Link.{Link}
 use Rattle.oci_transport.specs.declared.message.Exchange.{Exchange}
 use Rattle.cosign_chain.specs.Chain.{Chain}
 use Rattle.cosign_chain.specs.declared.image.VerifiedImage.{VerifiedImage}
-use Rattle.cosign_documents.specs.Documents.{Documents, documents_of}
-use Rattle.cosign_documents.specs.declared.documents.VerifiedDocuments.{VerifiedDocuments}
+use Rattle.cosign_chain.specs.VerifiedDocuments.{Documents, documents_of}
+use Rattle.cosign_chain.specs.declared.verified_documents.VerifiedDocuments.{VerifiedDocuments}
 use Rattle.cosign_layers.specs.Satisfying.{CustomVerdict, PolicyContext, policy_context}
 use Rattle.cosign_layers.specs.declared.policy.PullPolicy.{PullPolicy}
 use Rattle.cosign_parts.specs.Trust.{Trust}
-use Rattle.blob_laws.specs.Blobs.{descriptors_of, range_of}
+use Rattle.call_laws.specs.Blobs.{descriptors_of, range_of}
 use Rattle.image_blobs.specs.SinksState.{Closed, SinksState, Closes}
 use Rattle.image_blobs.specs.Taken.{Stands, TookBlobs}
 

@@ -2,7 +2,7 @@
 use Rattle.std.specs.Prelude.{◌≡◌, ℕ, Bool, List, ◌++◌, Option, Some}
 use Rattle.byte_streams.specs.SinkState.{SinkState}
 
--- a sink that was closed: the digest that it was opened for, its state, and whether it was told that it has the blob
+-- a sink that was closed: the digest that it was opened for, its state, and whether it was closed as having the blob
 pub record Closed : Type 0 where
   pub digest : List ℕ
   pub sink : SinkState

@@ -8,7 +8,7 @@ use Rattle.byte_streams.specs.declared.sink.SinkError.TheVariants.{Failed, WantO
 use Rattle.oci_transport.specs.Link.{Link}
 use Rattle.oci_transport.specs.declared.message.Exchange.{Exchange}
 use Rattle.oci_auth.specs.declared.auth_state.AuthState.{AuthState}
-use Rattle.oci_descriptors.specs.declared.descriptor.OciDescriptor.{OciDescriptor}
+use Rattle.oci_manifests.specs.declared.descriptor.OciDescriptor.{OciDescriptor}
 use Rattle.oci_protocol.specs.Runs.{Meets, Told}
 use Rattle.oci_names.specs.declared.reference.Reference.{Reference}
 use Rattle.engine_terms.specs.Contexts.{Context}
@@ -21,9 +21,9 @@ use Rattle.engine_rows.specs.Causes.{BadHeader}
 use Rattle.engine_rows.specs.Held.{pulling}
 use Rattle.engine_rows.specs.Blobs.{filled}
 use Rattle.engine_rows.specs.Rows.{Row}
-use Rattle.blob_laws.specs.Causes.{BlobsCause}
-use Rattle.blob_laws.specs.Cut.{size_of}
-use Rattle.blob_laws.specs.Taken.{IsBlobOf}
+use Rattle.call_laws.specs.Causes.{BlobsCause}
+use Rattle.call_laws.specs.Cut.{size_of}
+use Rattle.call_laws.specs.Taken.{IsBlobOf}
 use Rattle.image_blobs.specs.SinksState.{Closed, SinksState, Closes}
 
 -- ---- one blob
@@ -44,7 +44,7 @@ pub record AddsWithin (limit : ℕ) (old new : SinkState) : Type 0 where
   pub within : length bytes ≤ limit
   pub added : Adds bytes old new
 
--- the sink was opened for the descriptor's blob, took exactly it, and was told so
+-- the sink was opened for the descriptor's blob, took exactly it, and was closed as having it
 pub record Stands (fresh : SinkState) (c : List Exchange) (x : OciDescriptor) (z : Closed) : Type 0 where
   pub digest : z.digest ≡ x.digest
   pub stood : z.stood ≡ true
@@ -53,7 +53,7 @@ pub record Stands (fresh : SinkState) (c : List Exchange) (x : OciDescriptor) (z
   pub blob : IsBlobOf c x bytes
 
 -- It was opened for the descriptor's blob, took a prefix of a response's body with at most as many bytes as the
--- descriptor states, and was told that it has not the blob.
+-- descriptor states, and was closed as not having the blob.
 pub record Falls (fresh : SinkState) (c : List Exchange) (x : OciDescriptor) (z : Closed) : Type 0 where
   pub digest : z.digest ≡ x.digest
   pub stood : z.stood ≡ false

@@ -10,7 +10,7 @@ ghost use Rattle.engine_terms.specs.Error.{is_memory};
 ghost use Rattle.engine_rows.specs.Blobs.{MeetsIntoSink};
 ghost use Rattle.engine_rows.specs.Offers.{OfferedInto};
 ghost use Rattle.engine_rows.specs.Rows.{Row};
-ghost use Rattle.blob_laws.specs.Cut.{instead, cut};
+ghost use Rattle.call_laws.specs.Cut.{instead, cut};
 ghost use Rattle.image_blobs.specs.Taken.{AddsWithin};
 
 use crate::bodies::stream_within;

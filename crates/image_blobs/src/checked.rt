@@ -4,8 +4,8 @@ ghost use Rattle.image_blobs.specs.Checked.{Checks, IsDigesterOf, ReadsBlob};
 
 use byte_streams::{Failed, Source};
 use engine_terms::OciDistributionError;
-use oci_descriptors::OciDescriptor;
 use oci_digests::Digester;
+use oci_manifests::OciDescriptor;
 use std::alloc::{AllocError, Global};
 
 /// The greatest length of a piece in bytes.

@@ -5,7 +5,7 @@ ghost use Rattle.oci_protocol.specs.Runs.{Told};
 ghost use Rattle.engine_terms.specs.Contexts.{context_of};
 ghost use Rattle.engine_rows.specs.Confined.{Within};
 ghost use Rattle.engine_rows.specs.Held.{pulling};
-ghost use Rattle.blob_laws.specs.Blobs.{descriptors_of, range_of, kept_blob, each_blob, pull_blobs};
+ghost use Rattle.call_laws.specs.Blobs.{descriptors_of, range_of, kept_blob, each_blob, pull_blobs};
 ghost use Rattle.image_blobs.specs.Taken.{IsAt, TookBlobs, MeetsIntoSinks, MeetsOne};
 ghost use Rattle.image_blobs.specs.Taken.{RefusedFor, FaultCounted, SinksCounted, refusal_of};
 
@@ -16,8 +16,7 @@ use engine_requests::registry_address;
 use engine_steps::authorized;
 use engine_terms::{Call, OciDistributionError};
 use oci_auth::{AuthState, RegistryOperation};
-use oci_descriptors::OciDescriptor;
-use oci_manifests::OciImageManifest;
+use oci_manifests::{OciDescriptor, OciImageManifest};
 use oci_transport::Transport;
 use std::alloc::Global;
 
@@ -38,7 +37,7 @@ fn refusal_of(error: SinkError) -> OciDistributionError
     }
 }
 
-// Pulls a blob into a sink that is opened for it, and which is told whether it has it.
+// Pulls a blob into a sink that is opened for it, and which is closed as having it or not.
 #[tactic(none)]
 fn kept_blob<T: Transport, S: Sinks>(
     alloc: Global,

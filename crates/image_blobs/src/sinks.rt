@@ -24,7 +24,7 @@ pub trait Sinks {
         ensures unclosed { Closes [] (state self.old) (state self.new) }
         ensures fault { IsErrOf result SinkError.Failed → Increased (state self.old).faults (state self.new).faults };
 
-    /// Takes back a sink, and is told whether it has the whole blob of this digest, which was checked. Otherwise the
+    /// Takes back a sink, with whether it has the whole blob of this digest, which was checked. Otherwise the
     /// blob was refused, and the sink has a prefix of it or other bytes. Returns `Failed` if it refuses: the fault
     /// count increases then, and also if the sink itself had failed.
     fn close(

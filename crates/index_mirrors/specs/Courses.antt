@@ -75,7 +75,7 @@ EntryEnds t entry old new k l pulled (Err WantOfMemory) = (new ≡ old) × (l �
     ⊎ ((v : VerifiedImage) × (pulled ≡ Ok v) × (v.manifest_digest ≡ entry)
     × PerformsPrefix (entry_pushed t.context t.reference t.auth v) old new k l)
 
--- An entry whose pull had this result ended so. Whatever the result, the target's credentials and tokens were sent only
+-- So ended an entry whose pull had this result. Whatever the result, the target's credentials and tokens were sent only
 -- to its registry and to the realm that it names.
 pub record EntryPushed (t : Target) (entry : List ℕ) (pulled : Result VerifiedImage PullRefusal) (old new : Link)
     (k l : AuthState) (r : Result (Unit {0}) IndexRefusal) : Type 0 where
@@ -94,7 +94,7 @@ abbrev pub push_refusal : List ℕ → PushRefusal → IndexRefusal
 push_refusal entry (pushing.Refused digest error) = Push entry digest error
 push_refusal entry pushing.WantOfMemory = WantOfMemory
 
--- The image of one entry, from one state of both registries to another: it was pulled, and then it ended so.
+-- The image of one entry, from one state of both registries to another: it was pulled, and then it ended in this way.
 pub record EntryCourse {V : Type 0} {H : V → Type 0} (policy_context : PolicyContext V H) (s : Source) (t : Target)
     (entry : List ℕ) (old new : Stage) (r : Result (Unit {0}) IndexRefusal) : Type 0 where
   pub result : Result VerifiedImage PullRefusal

@@ -1,7 +1,7 @@
 -- The copy of an index with all of its images: the images first, and the index last.
 use Rattle.std.specs.Prelude.{◌≡◌, ◌⊎◌, ℕ, Bool, false, List, map, bytes_eq, Option, Some, None, option_and_then}
 use Rattle.std.specs.Prelude.{Result, Ok, Err, IfErr, IfOk}
-use Rattle.oci_descriptors.specs.declared.index_entry.ImageIndexEntry.{ImageIndexEntry}
+use Rattle.oci_manifests.specs.declared.index_entry.ImageIndexEntry.{ImageIndexEntry}
 use Rattle.oci_names.specs.Reference.{digest_of}
 use Rattle.oci_names.specs.declared.reference.Reference.{Reference}
 use Rattle.oci_protocol.specs.Runs.{Meets, Told}
@@ -9,7 +9,7 @@ use Rattle.oci_manifests.specs.declared.document.OciManifest.{OciManifest}
 use Rattle.oci_manifests.specs.declared.document.OciManifest.TheVariants.{Image, ImageIndex}
 use Rattle.engine_terms.specs.Error.{is_memory}
 use Rattle.cosign_chain.specs.Documents.{document_in}
-use Rattle.cosign_documents.specs.declared.documents.VerifiedDocuments.{VerifiedDocuments}
+use Rattle.cosign_chain.specs.declared.verified_documents.VerifiedDocuments.{VerifiedDocuments}
 use Rattle.cosign_layers.specs.Satisfying.{PolicyContext}
 use Rattle.pull_mirror.specs.Asked.{CopyWithin, StoppedCopy, outcome_of}
 use Rattle.pull_mirror.specs.Copies.{with_stored}

@@ -1,6 +1,6 @@
 -- The pull of one image of an index.
 use Rattle.std.specs.Prelude.{ℕ, false, List, Some, Result, IfErr, IfOk}
-use Rattle.oci_descriptors.specs.declared.promise.ResolverPromise.TheVariants.{Fixed}
+use Rattle.oci_manifests.specs.declared.promise.ResolverPromise.TheVariants.{Fixed}
 use Rattle.oci_engine.specs.declared.config.ClientConfig.{ClientConfig}
 use Rattle.oci_protocol.specs.Runs.{Meets, Told}
 use Rattle.oci_transport.specs.Link.{Link}

@@ -1,4 +1,4 @@
-// One image of an index after another: each is pulled, pushed and let go.
+// One image of an index after another: each is pulled, pushed and dropped.
 ghost use Rattle.std.specs.Prelude.{◌≡◌, Ok, bytes_eq};
 ghost use Rattle.oci_engine.specs.Kept.{auth_state_of};
 ghost use Rattle.index_mirrors.specs.Courses.{EntriesCourse, EntryCourse, EntryPushed, stage, target_of};
@@ -74,7 +74,7 @@ fn push_found<B: Transport>(
     }
 }
 
-// The same, and lets the image go.
+// The same, and drops the image.
 fn push_owned<B: Transport>(
     alloc: Global,
     client: &mut Client,
@@ -93,7 +93,7 @@ fn push_owned<B: Transport>(
     ended
 }
 
-// Pushes what was pulled for an entry, if it was, and lets it go.
+// Pushes what was pulled for an entry, if it was, and drops it.
 fn push_pulled<B: Transport>(
     alloc: Global,
     client: &mut Client,
@@ -114,7 +114,7 @@ fn push_pulled<B: Transport>(
     push_owned(alloc, client, transport, moment, to, entry, found)
 }
 
-// Pulls the image of one entry, pushes it, and lets it go.
+// Pulls the image of one entry, pushes it, and drops it.
 fn mirror_entry<'a, A: Transport, B: Transport, V: SignatureVerifier, O: Offline>(
     alloc: Global,
     transport: &mut A,
@@ -143,7 +143,7 @@ fn mirror_entry<'a, A: Transport, B: Transport, V: SignatureVerifier, O: Offline
     )
 }
 
-/// Pulls, pushes and lets go the image of each entry, in order, until one is refused.
+/// Pulls, pushes and drops the image of each entry, in order, until one is refused.
 pub(crate) fn mirror_entries<'a, A: Transport, B: Transport, V: SignatureVerifier, O: Offline>(
     alloc: Global,
     transport: &mut A,

@@ -11,13 +11,11 @@ ghost use Rattle.index_mirrors.specs.Terms.{meaning_of, source_of};
 use crate::entries::mirror_entries;
 use crate::refusals::IndexRefusal;
 use crate::terms::EntryTerms;
-use cosign_chain::document_in;
-use cosign_documents::VerifiedDocuments;
+use cosign_chain::{VerifiedDocuments, document_in};
 use cosign_parts::{Offline, SignatureVerifier};
 use json_values::{Blob, Copied, List, Text};
-use oci_descriptors::ImageIndexEntry;
 use oci_engine::Client;
-use oci_manifests::OciManifest;
+use oci_manifests::{ImageIndexEntry, OciManifest};
 use oci_transport::Transport;
 use pull_mirror::{CopyTarget, DocumentsRefusal, PushReport, push_documents};
 use registry_calls::OciReference;
@@ -116,7 +114,7 @@ fn push_index<B: Transport>(
 
 /// Copies an index with all of its images, after its documents were verified (`Client::verified_documents`): the image
 /// of each entry, in order, is pulled by the index's digest as `Client::verified_pull` does, by a new client that selects
-/// this entry; its blobs and its manifest are pushed as `push_entry` does; and it is let go before the next one. Then the
+/// this entry; its blobs and its manifest are pushed as `push_entry` does; and it is dropped before the next. Then the
 /// index is pushed with its signature, as `push_documents` does: so the target never has the index under the tag
 /// without an image of it that it took. Of the images one is held at a time.
 ///

@@ -1,7 +1,10 @@
 pub mod Entries
+pub mod MemberRefusals
 pub mod Members
+pub mod Names
 pub mod Pairs
 pub mod Partial
 pub mod Refusals
+pub mod Turns
 pub mod Whole
 pub mod WrittenLists

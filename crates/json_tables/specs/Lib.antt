@@ -8,4 +8,5 @@ pub mod Paths
 pub mod Plain
 pub mod Reading
 pub mod Rows
+pub mod Tokens
 pub mod WrittenRows

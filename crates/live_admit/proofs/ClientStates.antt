@@ -16,9 +16,9 @@ use Rattle.cosign_client.specs.State.{client_state}
 use Rattle.oci_names.specs.Reference.{reference_of}
 use Rattle.oci_names.specs.declared.parse_error.ParseError.{ParseError}
 use Rattle.oci_names.specs.declared.reference.Reference.{Reference}
-use Rattle.admit_rules.specs.Covering.{covers, place_of}
-use Rattle.admit_rules.specs.Rules.{IsFirstAt, first_for, rule_for, with_first}
-use Rattle.admit_rules.specs.declared.rule.Rule.{Rule}
+use Rattle.live_admit.specs.Covering.{covers, place_of}
+use Rattle.live_admit.specs.Rules.{IsFirstAt, first_for, rule_for, with_first}
+use Rattle.live_admit.specs.declared.rule.Rule.{Rule}
 use Rattle.pod_reviews.specs.declared.verdict.Denial.TheVariants.{NotAReference, NoRule}
 use Rattle.pod_reviews.specs.declared.verdict.Verdict.{Verdict}
 use Rattle.pod_reviews.specs.declared.verdict.Verdict.TheVariants.{Denied}
@@ -26,10 +26,10 @@ use Rattle.live_host.specs.Wire.{Wire, SendsFrame}
 use Rattle.live_pull.specs.Pulls.{client_settings}
 use Rattle.live_pull.specs.declared.settings.LiveSettings.{LiveSettings}
 use Rattle.live_pull.specs.declared.status.Status.{Status}
-use Rattle.live_documents.specs.Decided.{EndsEarly, Suits}
-use Rattle.live_documents.specs.Keeping.{IsWithin, StoresOnly}
-use Rattle.live_documents.proofs.Keeping.{decided_stores, decided_within}
-use Rattle.live_documents.proofs.Logs.{course_logged}
+use Rattle.live_pull.specs.Decided.{EndsEarly, Suits}
+use Rattle.live_pull.specs.Keeping.{IsWithin, StoresOnly}
+use Rattle.live_pull.proofs.Keeping.{decided_stores, decided_within}
+use Rattle.live_pull.proofs.Logs.{course_logged}
 use Rattle.live_admit.specs.Clients.{AreIn, ClientState, GivesOr, IsIn, Leads, LeadsOne, States, client_bounds, new_state, new_states, nothing_kept}
 use Rattle.live_admit.specs.Decided.{ByReference, ByRule, DecidedBy, Gives, ImageDecided, UnderRule}
 use Rattle.live_admit.specs.Frames.{image_head}

@@ -1,15 +1,15 @@
 -- Images that are decided one after another.
 use Rattle.std.proofs.Common.{◌≡◌, ℕ, List, [], ◌∷◌, ◌++◌, length, Result, Ok, Err, refl, sym, subst, append_assoc, append-nil, arith}
 use Rattle.registry_calls.specs.Clients.{Kept}
-use Rattle.cosign_documents.specs.declared.documents.VerifiedDocuments.{VerifiedDocuments}
+use Rattle.cosign_chain.specs.declared.verified_documents.VerifiedDocuments.{VerifiedDocuments}
 use Rattle.cosign_rows.specs.declared.refusal.PullRefusal.{PullRefusal}
-use Rattle.admit_rules.specs.declared.rule.Rule.{Rule}
+use Rattle.live_admit.specs.declared.rule.Rule.{Rule}
 use Rattle.pod_reviews.specs.declared.places.PlacedImage.{PlacedImage}
 use Rattle.pod_reviews.specs.declared.verdict.Verdict.{Verdict}
 use Rattle.live_host.specs.Wire.{Wire}
 use Rattle.live_pull.specs.declared.settings.LiveSettings.{LiveSettings}
 use Rattle.live_pull.specs.declared.status.Status.{Status}
-use Rattle.live_documents.specs.Decided.{DecidedFrom, Decides, EndsEarly}
+use Rattle.live_pull.specs.Decided.{DecidedFrom, Decides, EndsEarly}
 use Rattle.live_admit.specs.Clients.{AreIn, Leads, States}
 use Rattle.live_admit.specs.Decided.{DecidedBy, Gives, ImageDecided, ImagesDecided, VerdictOf}
 use Rattle.live_admit.specs.declared.clients.RuleClient.{RuleClient}

@@ -9,7 +9,7 @@ use Rattle.live_host.specs.declared.streams.HostError.TheVariants as host
 use Rattle.live_pull.specs.Status.{status_of}
 use Rattle.live_pull.specs.declared.status.Status.{Status}
 use Rattle.live_pull.specs.declared.status.Status.TheVariants as status
-use Rattle.live_documents.specs.Decided.{EndsEarly}
+use Rattle.live_pull.specs.Decided.{EndsEarly}
 use Rattle.live_admit.specs.Served.{ReadsReview, Stopped}
 
 pub host_early : (e : HostError) (new : Wire) → HostCause e new → EndsEarly (status_of e) new

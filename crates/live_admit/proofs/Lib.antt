@@ -1,4 +1,5 @@
 pub mod ClientStates
 pub mod Decisions
 pub mod Ends
+pub mod Places
 pub mod Reviews

@@ -1,7 +1,7 @@
 -- Reviews that are served one after another.
 use Rattle.std.proofs.Common.{◌≡◌, ℕ, ◌+◌, List, [], suc, Option, None, Result, Ok, Err, refl, sym, subst, ◌∙◌, arith}
 use Rattle.std.specs.Prelude.{⊤}
-use Rattle.admit_rules.specs.declared.rule.Rule.{Rule}
+use Rattle.live_admit.specs.declared.rule.Rule.{Rule}
 use Rattle.json_tables.specs.Plain.{read_plain}
 use Rattle.pod_reviews.specs.Places.{pod_review_of}
 use Rattle.pod_reviews.specs.declared.pod.PodReview.{PodReview}
@@ -10,7 +10,7 @@ use Rattle.live_host.specs.Wire.{Wire, SendsFrame}
 use Rattle.live_pull.specs.declared.status.Status.{Status}
 use Rattle.live_pull.specs.declared.status.Status.TheVariants as status
 use Rattle.live_admit.specs.Clients.{AreIn, Leads, States}
-use Rattle.live_documents.specs.Decided.{EndsEarly}
+use Rattle.live_pull.specs.Decided.{EndsEarly}
 use Rattle.live_admit.specs.Decided.{ImagesDecided}
 use Rattle.live_admit.specs.Frames.{unreadable_head}
 use Rattle.live_admit.specs.Served.{Answered, Done, EndsAfter, ReceivesReview, Responded, ResponseTold, ReviewsServed, Served, ServesFrom, Stopped}

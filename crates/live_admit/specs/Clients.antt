@@ -6,13 +6,13 @@ use Rattle.registry_cache.specs.declared.answers.Bounds.{Bounds}
 use Rattle.registry_calls.specs.Clients.{Kept, none_kept}
 use Rattle.registry_calls.specs.Log.{LoggedCall, IsRun, IsBacked}
 use Rattle.cosign_client.specs.State.{client_state}
-use Rattle.admit_rules.specs.declared.rule.Rule.{Rule}
+use Rattle.live_admit.specs.declared.rule.Rule.{Rule}
 use Rattle.live_host.specs.Wire.{Wire}
 use Rattle.live_pull.specs.Pulls.{client_settings}
 use Rattle.live_pull.specs.declared.settings.LiveSettings.{LiveSettings}
 use Rattle.live_pull.specs.declared.status.Status.{Status}
-use Rattle.live_documents.specs.Decided.{EndsEarly}
-use Rattle.live_documents.specs.Keeping.{IsWithin, StoresOnly}
+use Rattle.live_pull.specs.Decided.{EndsEarly}
+use Rattle.live_pull.specs.Keeping.{IsWithin, StoresOnly}
 use Rattle.live_admit.specs.Settings.{Rules}
 use Rattle.live_admit.specs.declared.clients.RuleClient.{RuleClient}
 

@@ -4,14 +4,14 @@ use Rattle.oci_names.specs.Reference.{reference_of}
 use Rattle.oci_names.specs.declared.parse_error.ParseError.{ParseError}
 use Rattle.oci_names.specs.declared.reference.Reference.{Reference}
 use Rattle.registry_calls.specs.Clients.{Kept}
-use Rattle.cosign_documents.specs.declared.documents.VerifiedDocuments.{VerifiedDocuments}
+use Rattle.cosign_chain.specs.declared.verified_documents.VerifiedDocuments.{VerifiedDocuments}
 use Rattle.cosign_rows.specs.Refusal.{is_memory}
 use Rattle.cosign_rows.specs.declared.refusal.PullRefusal.{PullRefusal}
-use Rattle.cache_laws.specs.Growth.{ExtendsLog}
+use Rattle.cosign_client.specs.Growth.{ExtendsLog}
 use Rattle.pull_report.specs.Prints.{refusal_print}
-use Rattle.admit_rules.specs.Covering.{place_of}
-use Rattle.admit_rules.specs.Rules.{rule_for, with_first}
-use Rattle.admit_rules.specs.declared.rule.Rule.{Rule}
+use Rattle.live_admit.specs.Covering.{place_of}
+use Rattle.live_admit.specs.Rules.{rule_for, with_first}
+use Rattle.live_admit.specs.declared.rule.Rule.{Rule}
 use Rattle.pod_reviews.specs.declared.places.PlacedImage.{PlacedImage}
 use Rattle.pod_reviews.specs.declared.verdict.Denial.TheVariants.{NotAReference, NoRule, Refused}
 use Rattle.pod_reviews.specs.declared.verdict.Verdict.{Verdict}
@@ -20,9 +20,9 @@ use Rattle.live_host.specs.Wire.{Wire, SendsFrame}
 use Rattle.live_pull.specs.Pulls.{client_settings}
 use Rattle.live_pull.specs.declared.settings.LiveSettings.{LiveSettings}
 use Rattle.live_pull.specs.declared.status.Status.{Status}
-use Rattle.live_documents.specs.Course.{exchanges_of}
-use Rattle.live_documents.specs.Decided.{DecidedFrom, EndsEarly}
-use Rattle.live_documents.specs.Keeping.{IsWithin, StoresOnly}
+use Rattle.live_pull.specs.Course.{exchanges_of}
+use Rattle.live_pull.specs.Decided.{DecidedFrom, EndsEarly}
+use Rattle.live_pull.specs.Keeping.{IsWithin, StoresOnly}
 use Rattle.live_admit.specs.Clients.{ClientState, States, GivesOr, client_bounds}
 use Rattle.live_admit.specs.Frames.{image_head}
 use Rattle.live_admit.specs.Settings.{settings_for}

@@ -10,7 +10,7 @@ use Rattle.live_host.specs.HostErrors.{IsBroken, IsUnwritten}
 use Rattle.live_host.specs.Wire.{Wire, ReceivesFrame, SendsFrame}
 use Rattle.live_pull.specs.declared.status.Status.{Status}
 use Rattle.live_pull.specs.declared.status.Status.TheVariants as status
-use Rattle.live_documents.specs.Decided.{EndsEarly}
+use Rattle.live_pull.specs.Decided.{EndsEarly}
 use Rattle.live_admit.specs.Clients.{States, new_states}
 use Rattle.live_admit.specs.Decided.{ImagesDecided}
 use Rattle.live_admit.specs.Frames.{response_head, review_frame_of, unreadable_head}

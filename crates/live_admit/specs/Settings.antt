@@ -4,8 +4,8 @@ use Rattle.serde_json.specs.Data.{Data}
 use Rattle.json_tables.specs.Reading.{◌>>=◌, u64_of, list_of}
 use Rattle.json_tables.specs.Objects.{only}
 use Rattle.json_tables.specs.Member.{required}
-use Rattle.admit_rules.specs.Rules.{rule_of}
-use Rattle.admit_rules.specs.declared.rule.Rule.{Rule}
+use Rattle.live_admit.specs.Rules.{rule_of}
+use Rattle.live_admit.specs.declared.rule.Rule.{Rule}
 use Rattle.live_host.specs.Names.{frame_named}
 use Rattle.live_pull.specs.Settings.{settings_of}
 use Rattle.live_pull.specs.declared.settings.LiveSettings.{LiveSettings}

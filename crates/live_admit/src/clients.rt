@@ -5,15 +5,15 @@ ghost use Rattle.cosign_client.specs.State.{client_state};
 ghost use Rattle.live_pull.specs.Pulls.{client_settings};
 ghost use Rattle.live_admit.specs.Clients.{AreIn, IsIn, new_state, new_states, nothing_kept};
 
+use crate::Rule;
 use crate::settings::settings_for;
-use admit_rules::Rule;
 use cosign_client::Client;
 use cosign_parts::LogKeys;
 use engine_terms::ClientProtocol;
 use json_values::{Copied, copy_all, row};
 use live_pull::LiveSettings;
-use oci_descriptors::PlatformResolver;
 use oci_engine::ClientConfig;
+use oci_manifests::PlatformResolver;
 use sig_registry::{OciCachingClient, RegistryClient};
 use std::alloc::{AllocError, Global};
 

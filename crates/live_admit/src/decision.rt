@@ -3,16 +3,15 @@ ghost use Rattle.std.specs.Prelude.{◌≡◌};
 ghost use Rattle.cosign_client.specs.State.{client_state};
 ghost use Rattle.live_host.specs.Wire.{wire};
 ghost use Rattle.live_pull.specs.Settings.{IsReady};
-ghost use Rattle.live_documents.specs.Decided.{Suits};
+ghost use Rattle.live_pull.specs.Decided.{Suits};
 ghost use Rattle.live_admit.specs.Decided.{DecidedBy, Gives, VerdictOf};
 
 use crate::outcome::verdict_of;
 use byte_streams::{Sink, Source};
+use cosign_chain::VerifiedDocuments;
 use cosign_client::{Client, PullRefusal};
-use cosign_documents::VerifiedDocuments;
-use live_documents::{Decided, decide_again};
 use live_host::Streams;
-use live_pull::{LiveSettings, Status};
+use live_pull::{Decided, LiveSettings, Status, decide_again};
 use pod_reviews::Verdict;
 use std::alloc::Global;
 

@@ -1,13 +1,13 @@
 // The decision about an image by the rules.
 ghost use Rattle.std.specs.Prelude.{◌≡◌, Err, IfErr, IsOk, Ok, OnOk, []};
 ghost use Rattle.oci_names.specs.Reference.{reference_of};
-ghost use Rattle.admit_rules.specs.Covering.{place_of};
-ghost use Rattle.admit_rules.specs.Rules.{rule_for, IsFirstAt};
+ghost use Rattle.live_admit.specs.Covering.{place_of};
+ghost use Rattle.live_admit.specs.Rules.{rule_for, IsFirstAt};
 ghost use Rattle.pod_reviews.specs.declared.verdict.Denial.TheVariants.{NotAReference};
 ghost use Rattle.pod_reviews.specs.declared.verdict.Verdict.TheVariants.{Denied};
 ghost use Rattle.live_host.specs.HostErrors.{HostCause};
 ghost use Rattle.live_host.specs.Wire.{wire, SendsFrame};
-ghost use Rattle.live_documents.specs.Decided.{EndsEarly};
+ghost use Rattle.live_pull.specs.Decided.{EndsEarly};
 ghost use Rattle.live_admit.specs.Clients.{Leads, LeadsOne};
 ghost use Rattle.live_admit.specs.Decided.{ByRule, Gives, ImageDecided, UnderRule};
 ghost use Rattle.live_admit.specs.Frames.{image_head as head_of_image};
@@ -16,7 +16,7 @@ use crate::clients::RuleClient;
 use crate::decision::{Judged, decide};
 use crate::frames::image_head;
 use crate::settings::settings_for;
-use admit_rules::{Rule, index_for};
+use crate::{Rule, index_for};
 use byte_streams::{Sink, Source};
 use json_values::{Copied, Text};
 use live_host::{HostError, Streams, tell};

@@ -1,14 +1,14 @@
 // The decisions about the images of a review.
 ghost use Rattle.std.specs.Prelude.{◌≡◌, Err, IfOk, length};
 ghost use Rattle.live_host.specs.Wire.{wire};
-ghost use Rattle.live_documents.specs.Decided.{EndsEarly};
+ghost use Rattle.live_pull.specs.Decided.{EndsEarly};
 ghost use Rattle.live_admit.specs.Clients.{Leads};
 ghost use Rattle.live_admit.specs.Decided.{ImagesDecided};
 
+use crate::Rule;
 use crate::clients::RuleClient;
 use crate::decision::Judged;
 use crate::image::decide_image;
-use admit_rules::Rule;
 use byte_streams::{Sink, Source};
 use json_values::List;
 use live_host::Streams;

@@ -4,8 +4,8 @@ ghost use Rattle.pull_report.specs.Prints.{refusal_print};
 ghost use Rattle.live_host.specs.Wire.{Wire};
 ghost use Rattle.live_admit.specs.Decided.{Gives, VerdictOf};
 
+use cosign_chain::VerifiedDocuments;
 use cosign_client::PullRefusal;
-use cosign_documents::VerifiedDocuments;
 use json_values::{Blob, Copied, Text};
 use live_pull::Status;
 use pod_reviews::{Denial, Verdict};

@@ -3,16 +3,16 @@ ghost use Rattle.std.specs.Prelude.{◌≡◌, IfErr, IfOk, OnOk, length, []};
 ghost use Rattle.json_tables.specs.Plain.{read_plain};
 ghost use Rattle.pod_reviews.specs.Places.{pod_review_of};
 ghost use Rattle.live_host.specs.Wire.{wire, SendsFrame};
-ghost use Rattle.live_documents.specs.Decided.{EndsEarly};
+ghost use Rattle.live_pull.specs.Decided.{EndsEarly};
 ghost use Rattle.live_admit.specs.Frames.{unreadable_head as head_of_none};
 ghost use Rattle.live_admit.specs.Clients.{Leads};
 ghost use Rattle.live_admit.specs.Served.{Answered, Done, ReadsReview, ReceivesReview, Responded};
 ghost use Rattle.live_admit.specs.Served.{ResponseTold, Served, Stopped};
 
+use crate::Rule;
 use crate::clients::RuleClient;
 use crate::frames::{ReviewFrame, read_review_frame, response_head, unreadable_head};
 use crate::images::{AllJudged, decide_images};
-use admit_rules::Rule;
 use byte_streams::{Sink, Source};
 use json_tables::ReadError;
 use json_values::{Json, List};

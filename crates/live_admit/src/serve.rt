@@ -4,10 +4,10 @@ ghost use Rattle.live_host.specs.Wire.{wire};
 ghost use Rattle.live_admit.specs.Clients.{AreIn, States};
 ghost use Rattle.live_admit.specs.Served.{Serves, ServesFrom};
 
+use crate::Rule;
 use crate::clients::{RuleClient, open_rules};
 use crate::review::{Step, serve_review};
 use crate::settings::AdmitSettings;
-use admit_rules::Rule;
 use byte_streams::{Sink, Source};
 use live_host::Streams;
 use live_pull::{Ended, Status};

@@ -4,7 +4,7 @@ ghost use Rattle.serde_json.specs.View.{view};
 ghost use Rattle.json_tables.specs.Outcomes.{ReadsTo};
 ghost use Rattle.live_admit.specs.Settings.{admit_of, settings_for};
 
-use admit_rules::Rule;
+use crate::Rule;
 use json_tables::{ReadError, Reads, only, required};
 use json_values::{Copied, List, Text, copy_all, row};
 use live_host::is_frame;

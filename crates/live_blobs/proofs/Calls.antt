@@ -2,7 +2,7 @@
 use Rattle.std.proofs.Common.{◌≡◌, ◌≤◌, ℕ, List, [], All, Option, Some, None, Result, Ok, Err, subst, take, arith}
 use Rattle.byte_streams.specs.SinkState.{SinkState}
 use Rattle.oci_auth.specs.declared.auth_state.AuthState.{AuthState}
-use Rattle.oci_descriptors.specs.declared.descriptor.OciDescriptor.{OciDescriptor}
+use Rattle.oci_manifests.specs.declared.descriptor.OciDescriptor.{OciDescriptor}
 use Rattle.oci_names.specs.declared.reference.Reference.{Reference}
 use Rattle.oci_protocol.specs.Proto.{Proto}
 use Rattle.oci_protocol.specs.Runs.{Performs, Runs, Told}
@@ -14,8 +14,8 @@ use Rattle.engine_rows.specs.Held.{pulling}
 use Rattle.engine_terms.specs.Contexts.{Context}
 use Rattle.engine_terms.specs.declared.error.OciDistributionError.{OciDistributionError}
 use Rattle.engine_terms.specs.declared.error.OciDistributionError.TheVariants as refusal
-use Rattle.blob_laws.specs.Blobs.{pull_blobs}
-use Rattle.blob_laws.specs.Causes.{BlobsCause}
+use Rattle.call_laws.specs.Blobs.{pull_blobs}
+use Rattle.call_laws.specs.Causes.{BlobsCause}
 use Rattle.image_blobs.specs.SinksState.{Closed, SinksState}
 use Rattle.image_blobs.specs.Taken.{MeetsIntoSinks, RefusedFor, SinksCounted, TookBlobs, with_blobs}
 use Rattle.live_link.specs.State.{told_from}

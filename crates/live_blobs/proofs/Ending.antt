@@ -1,12 +1,12 @@
 -- How a pull of blobs ends, by its parts.
 use Rattle.std.proofs.Common.{◌≡◌, ◌≤◌, ◌-◌, ℕ, false, List, [], ◌++◌, All, take, drop, Result, Ok, Err, refl, sym, ap, ◌∙◌, subst, arith, append-nil, take-append-drop, take-take}
 use Rattle.oci_auth.specs.declared.auth_state.AuthState.{AuthState}
-use Rattle.oci_descriptors.specs.declared.descriptor.OciDescriptor.{OciDescriptor}
+use Rattle.oci_manifests.specs.declared.descriptor.OciDescriptor.{OciDescriptor}
 use Rattle.oci_names.specs.declared.reference.Reference.{Reference}
 use Rattle.engine_terms.specs.Contexts.{Context, within}
 use Rattle.engine_terms.specs.Error.{is_memory}
 use Rattle.engine_terms.specs.declared.error.OciDistributionError.{OciDistributionError}
-use Rattle.blob_laws.specs.Blobs.{range_of}
+use Rattle.call_laws.specs.Blobs.{range_of}
 use Rattle.image_blobs.specs.declared.pulls.BlobRange.{BlobRange}
 use Rattle.live_host.specs.HostErrors.{HostCause}
 use Rattle.live_host.specs.Wire.{Wire}

@@ -1,8 +1,13 @@
 pub mod Calls
+pub mod CarryEnding
+pub mod CarryReady
 pub mod Counted
 pub mod Ending
 pub mod FrameReads
 pub mod Listed
+pub mod Made
 pub mod Plain
 pub mod Ready
 pub mod Received
+pub mod SentBytes
+pub mod Taken

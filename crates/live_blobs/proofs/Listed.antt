@@ -1,8 +1,8 @@
 -- The digests of a range, one after another.
 use Rattle.std.proofs.Common.{◌≡◌, ◌<◌, ◌+◌, ℕ, List, [], ◌∷◌, ◌++◌, refl, sym, ap, ◌∙◌, append_assoc, append-nil}
 use Rattle.std.proofs.lemmas.List.{map-append}
-use Rattle.oci_descriptors.specs.declared.descriptor.OciDescriptor.{OciDescriptor}
-use Rattle.blob_laws.specs.Blobs.{range_of}
+use Rattle.oci_manifests.specs.declared.descriptor.OciDescriptor.{OciDescriptor}
+use Rattle.call_laws.specs.Blobs.{range_of}
 use Rattle.image_blobs.proofs.EachInTurn.{range_next}
 use Rattle.image_blobs.specs.Taken.{IsAt}
 use Rattle.live_blobs.specs.LiveBlobs.{digests_of}

@@ -1,3 +1,8 @@
+pub mod CarryEnds
+pub mod CarryHeads
+pub mod CarryOpening
+pub mod CarrySettings
+pub mod Carrying
 pub mod Delivery
 pub mod DiscardState
 pub mod Discarded
@@ -7,3 +12,4 @@ pub mod LiveBlobs
 pub mod Opening
 pub mod Pulled
 pub mod Settings
+pub mod SourcePieces

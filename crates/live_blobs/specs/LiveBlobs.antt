@@ -1,6 +1,6 @@
 -- A live pull of blobs, from its settings on.
 use Rattle.std.specs.Prelude.{◌≡◌, ℕ, List, map, Result, Ok}
-use Rattle.oci_descriptors.specs.declared.descriptor.OciDescriptor.{OciDescriptor}
+use Rattle.oci_manifests.specs.declared.descriptor.OciDescriptor.{OciDescriptor}
 use Rattle.oci_names.specs.Reference.{reference_of}
 use Rattle.oci_names.specs.declared.reference.Reference.{Reference}
 use Rattle.oci_auth.specs.declared.auth_state.AuthState.{AuthState}

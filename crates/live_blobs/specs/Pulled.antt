@@ -1,7 +1,7 @@
 -- A pull of blobs whose requests are frames.
 use Rattle.std.specs.Prelude.{◌≡◌, ◌≤◌, ◌+◌, ℕ, false, List, [], ◌++◌, take, All, None, Result, Ok, Err, IfOk, IfErr}
 use Rattle.oci_auth.specs.declared.auth_state.AuthState.{AuthState}
-use Rattle.oci_descriptors.specs.declared.descriptor.OciDescriptor.{OciDescriptor}
+use Rattle.oci_manifests.specs.declared.descriptor.OciDescriptor.{OciDescriptor}
 use Rattle.oci_names.specs.declared.reference.Reference.{Reference}
 use Rattle.oci_protocol.specs.Proto.{Proto}
 use Rattle.oci_protocol.specs.Runs.{Runs}
@@ -14,9 +14,9 @@ use Rattle.engine_terms.specs.Contexts.{Context}
 use Rattle.engine_terms.specs.Error.{is_memory}
 use Rattle.engine_terms.specs.declared.error.OciDistributionError.{OciDistributionError}
 use Rattle.engine_terms.specs.declared.error.OciDistributionError.TheVariants as refusal
-use Rattle.blob_laws.specs.Blobs.{pull_blobs}
-use Rattle.blob_laws.specs.Causes.{BlobsCause}
-use Rattle.blob_laws.specs.Taken.{IsBlobOf}
+use Rattle.call_laws.specs.Blobs.{pull_blobs}
+use Rattle.call_laws.specs.Causes.{BlobsCause}
+use Rattle.call_laws.specs.Taken.{IsBlobOf}
 use Rattle.image_blobs.specs.Taken.{with_blobs}
 use Rattle.image_blobs.specs.declared.pulls.BlobRange.{BlobRange}
 use Rattle.live_host.specs.Wire.{Wire}

@@ -4,9 +4,9 @@ use Rattle.serde_json.specs.Data.{Data}
 use Rattle.json_tables.specs.Reading.{◌>>=◌, u64_of}
 use Rattle.json_tables.specs.Objects.{only}
 use Rattle.json_tables.specs.Member.{required}
-use Rattle.oci_descriptors.specs.declared.descriptor.OciDescriptor.{OciDescriptor}
+use Rattle.oci_manifests.specs.declared.descriptor.OciDescriptor.{OciDescriptor}
 use Rattle.oci_manifests.specs.Manifest.{manifest_of}
-use Rattle.blob_laws.specs.Blobs.{descriptors_of, range_of}
+use Rattle.call_laws.specs.Blobs.{descriptors_of, range_of}
 use Rattle.live_host.specs.Names.{frame_named}
 use Rattle.live_pull.specs.Settings.{IsReady, documents_of}
 use Rattle.live_blobs.specs.declared.settings.BlobSettings.{BlobSettings}

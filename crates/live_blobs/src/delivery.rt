@@ -1,6 +1,6 @@
 // What is sent after a pull of blobs.
 ghost use Rattle.std.specs.Prelude.{◌≡◌, ◌≤◌, [], length, Ok, Err, IfOk, IfErr, OnOk, MatchOption};
-ghost use Rattle.blob_laws.specs.Blobs.{descriptors_of, range_of};
+ghost use Rattle.call_laws.specs.Blobs.{descriptors_of, range_of};
 ghost use Rattle.image_blobs.specs.Taken.{IsAt};
 ghost use Rattle.live_host.specs.HostErrors.{HostCause};
 ghost use Rattle.live_host.specs.Wire.{wire, SendsFrame};
@@ -16,8 +16,7 @@ use image_blobs::BlobRange;
 use json_values::{Blob, Copied, List, Text};
 use live_host::{HostError, Streams, refused_head, tell};
 use live_pull::Status;
-use oci_descriptors::OciDescriptor;
-use oci_manifests::OciImageManifest;
+use oci_manifests::{OciDescriptor, OciImageManifest};
 use pull_report::print_line;
 use std::alloc::{AllocError, Global};
 

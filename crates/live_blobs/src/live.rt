@@ -1,7 +1,7 @@
 // A live pull of blobs, from its settings to its end.
 ghost use Rattle.std.specs.Prelude.{◌≡◌};
 ghost use Rattle.engine_terms.specs.Contexts.{within};
-ghost use Rattle.blob_laws.specs.Blobs.{descriptors_of, range_of};
+ghost use Rattle.call_laws.specs.Blobs.{descriptors_of, range_of};
 ghost use Rattle.live_host.specs.Wire.{wire};
 ghost use Rattle.live_blobs.specs.Ends.{EndsBy};
 ghost use Rattle.live_blobs.specs.LiveBlobs.{LiveBlobs, PulledAndTold};

@@ -1,7 +1,7 @@
 // The pull of blobs, by a transport over the streams.
 ghost use Rattle.std.specs.Prelude.{◌≡◌, ◌≤◌, ℕ, take, length, Ok, IfOk, MatchOption};
 ghost use Rattle.engine_terms.specs.Contexts.{within};
-ghost use Rattle.blob_laws.specs.Blobs.{descriptors_of, range_of};
+ghost use Rattle.call_laws.specs.Blobs.{descriptors_of, range_of};
 ghost use Rattle.live_host.specs.Wire.{wire};
 ghost use Rattle.live_blobs.specs.Pulled.{BlobsPulled, FirstReceived, UnlessMemory};
 

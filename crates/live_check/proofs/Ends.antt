@@ -15,9 +15,9 @@ use Rattle.live_host.specs.declared.streams.HostError.TheVariants as host
 use Rattle.live_pull.specs.Status.{status_of}
 use Rattle.live_pull.specs.declared.status.Status.{Status}
 use Rattle.live_pull.specs.declared.status.Status.TheVariants as status
-use Rattle.oci_descriptors.specs.declared.promise.ResolverPromise.{ResolverPromise}
+use Rattle.oci_manifests.specs.declared.promise.ResolverPromise.{ResolverPromise}
 use Rattle.cosign_layers.specs.Satisfying.{PolicyContext}
-use Rattle.cosign_documents.specs.declared.documents.VerifiedDocuments.{VerifiedDocuments}
+use Rattle.cosign_chain.specs.declared.verified_documents.VerifiedDocuments.{VerifiedDocuments}
 use Rattle.pull_lock.specs.Unlocked.{GivesDocuments}
 use Rattle.pull_lock.specs.declared.lock.LockEntry.{LockEntry}
 use Rattle.live_check.specs.Checked.{DecidesAndTells, EndsChecked, VerdictOn, status_by}

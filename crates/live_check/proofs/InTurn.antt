@@ -1,7 +1,7 @@
 -- The blobs of a range, one after another.
 use Rattle.std.proofs.Common.{◌≡◌, ◌<◌, inl, inr, ℕ, ◌+◌, Bool, true, false, List, [], Option, Some, None, refl, sym, ap, subst}
-use Rattle.oci_descriptors.specs.declared.descriptor.OciDescriptor.{OciDescriptor}
-use Rattle.blob_laws.specs.Blobs.{range_of}
+use Rattle.oci_manifests.specs.declared.descriptor.OciDescriptor.{OciDescriptor}
+use Rattle.call_laws.specs.Blobs.{range_of}
 use Rattle.image_blobs.specs.Taken.{IsAt}
 use Rattle.image_blobs.proofs.EachInTurn.{range_next}
 use Rattle.live_host.specs.Wire.{Wire}

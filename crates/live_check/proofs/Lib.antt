@@ -1,6 +1,7 @@
 pub mod Ends
 pub mod FrameReads
 pub mod InTurn
+pub mod LockEnds
 pub mod PartsIn
 pub mod Pieces
 pub mod Policies

@@ -8,7 +8,7 @@ use Rattle.oci_digests.specs.Checks.{named_algorithm}
 use Rattle.oci_digests.specs.Hashes.{hash_of}
 use Rattle.oci_digests.specs.Names.{Names, digest_text}
 use Rattle.oci_digests.proofs.Algorithms.{algorithm_named}
-use Rattle.oci_descriptors.specs.declared.descriptor.OciDescriptor.{OciDescriptor}
+use Rattle.oci_manifests.specs.declared.descriptor.OciDescriptor.{OciDescriptor}
 use Rattle.hex.specs.Hex.{encode_lower}
 use Rattle.image_blobs.specs.Checked.{IsBlob, IsDigesterOf}
 use Rattle.live_host.specs.Wire.{Wire}

@@ -3,14 +3,14 @@ use Rattle.std.proofs.Common.{◌≡◌, ◌<◌, ℕ, suc, false, IsTrue, List,
 use Rattle.std.specs.Prelude.{Bool, IfOk, IfErr}
 use Rattle.std.specs.List.{All}
 use Rattle.std.proofs.lemmas.List.Elements.{All-nil, All-cons, All-head, All-tail}
-use Rattle.oci_descriptors.specs.declared.promise.ResolverPromise.{ResolverPromise}
+use Rattle.oci_manifests.specs.declared.promise.ResolverPromise.{ResolverPromise}
 use Rattle.cosign_layers.specs.Constraint.{accepts}
 use Rattle.cosign_layers.specs.Satisfying.{CustomVerdict, StandsFor, policy_context}
 use Rattle.cosign_layers.specs.declared.constraint.Constraint.{Constraint}
 use Rattle.cosign_layers.specs.declared.policy.PullPolicy.{PullPolicy}
 use Rattle.cosign_parts.specs.Trust.{Trust}
 use Rattle.cosign_parts.specs.declared.layer.SignatureLayer.{SignatureLayer}
-use Rattle.cosign_documents.specs.declared.documents.VerifiedDocuments.{VerifiedDocuments}
+use Rattle.cosign_chain.specs.declared.verified_documents.VerifiedDocuments.{VerifiedDocuments}
 use Rattle.recorded_case.specs.Policy.{constraints_by}
 use Rattle.recorded_case.specs.declared.constraint.WrittenConstraint.{WrittenConstraint}
 use Rattle.recorded_case.proofs.Written.{accepts_same}

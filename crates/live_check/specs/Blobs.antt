@@ -3,7 +3,7 @@ use Rattle.std.specs.Prelude.{◌≡◌, ◌⊎◌, ◌<◌, ℕ, Bool, true, fa
 use Rattle.oci_names.specs.declared.algorithm.Algorithm.{Algorithm}
 use Rattle.oci_digests.specs.Holds.{Holds}
 use Rattle.oci_digests.specs.declared.digester.Digester.{Digester}
-use Rattle.oci_descriptors.specs.declared.descriptor.OciDescriptor.{OciDescriptor}
+use Rattle.oci_manifests.specs.declared.descriptor.OciDescriptor.{OciDescriptor}
 use Rattle.image_blobs.specs.Checked.{IsBlob}
 use Rattle.live_host.specs.Wire.{Wire, SendsFrame}
 use Rattle.live_check.specs.Heads.{want_head}

@@ -1,10 +1,10 @@
 -- An image that is checked with a host, without a request.
 use Rattle.std.specs.Prelude.{◌≡◌, ℕ, Bool, true, false, List, [], Option, Some, None, Result, Ok, Err, is_none}
-use Rattle.oci_descriptors.specs.declared.descriptor.OciDescriptor.{OciDescriptor}
-use Rattle.oci_descriptors.specs.declared.promise.ResolverPromise.{ResolverPromise}
+use Rattle.oci_manifests.specs.declared.descriptor.OciDescriptor.{OciDescriptor}
+use Rattle.oci_manifests.specs.declared.promise.ResolverPromise.{ResolverPromise}
 use Rattle.cosign_layers.specs.Satisfying.{PolicyContext}
-use Rattle.cosign_documents.specs.declared.documents.VerifiedDocuments.{VerifiedDocuments}
-use Rattle.blob_laws.specs.Blobs.{descriptors_of, range_of}
+use Rattle.cosign_chain.specs.declared.verified_documents.VerifiedDocuments.{VerifiedDocuments}
+use Rattle.call_laws.specs.Blobs.{descriptors_of, range_of}
 use Rattle.pull_lock.specs.Unlocked.{GivesDocuments}
 use Rattle.pull_lock.specs.declared.lock.LockEntry.{LockEntry}
 use Rattle.live_host.specs.Questions.{WereAsked}

@@ -1,6 +1,9 @@
 pub mod Blobs
 pub mod Checked
 pub mod Heads
+pub mod LockChecked
+pub mod LockHeads
+pub mod LockSettings
 pub mod Parts
 pub mod Settings
 pub mod Stopped

@@ -1,6 +1,6 @@
 // The blobs of a range, each received in parts and held to its descriptor.
 ghost use Rattle.std.specs.Prelude.{IfOk, IfErr};
-ghost use Rattle.blob_laws.specs.Blobs.{descriptors_of, range_of};
+ghost use Rattle.call_laws.specs.Blobs.{descriptors_of, range_of};
 ghost use Rattle.live_host.specs.Wire.{wire};
 ghost use Rattle.live_check.specs.Blobs.{BlobChecked, PartsChecked, PartsHashed, Went};
 ghost use Rattle.live_check.specs.Stopped.{Stopped};
@@ -12,9 +12,8 @@ use image_blobs::{BlobRange, descriptor_at, digester_of};
 use json_values::{Copied, Text};
 use live_host::{Streams, tell};
 use live_pull::Status;
-use oci_descriptors::OciDescriptor;
 use oci_digests::Digester;
-use oci_manifests::OciImageManifest;
+use oci_manifests::{OciDescriptor, OciImageManifest};
 use std::alloc::Global;
 
 // Receives the parts of a blob, piece by piece, and hashes them; returns whether they are whole and have `size` bytes.

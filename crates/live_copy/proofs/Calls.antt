@@ -9,7 +9,7 @@ use Rattle.engine_rows.specs.Rows.{Row}
 use Rattle.engine_terms.specs.Contexts.{Context}
 use Rattle.engine_terms.specs.Error.{is_memory}
 use Rattle.engine_terms.specs.declared.error.OciDistributionError.{OciDistributionError}
-use Rattle.cosign_documents.specs.declared.documents.VerifiedDocuments.{VerifiedDocuments}
+use Rattle.cosign_chain.specs.declared.verified_documents.VerifiedDocuments.{VerifiedDocuments}
 use Rattle.live_link.specs.State.{told_from}
 use Rattle.live_link.specs.declared.stage.Breach.{Breach}
 use Rattle.live_host.specs.Wire.{Wire}
@@ -22,11 +22,11 @@ use Rattle.pull_mirror.specs.declared.absences.DocumentsRefusal.{DocumentsRefusa
 use Rattle.pull_mirror.specs.declared.absences.DocumentsRefusal.TheVariants.{Missing, Refused, WantOfMemory}
 use Rattle.pull_mirror.specs.declared.refusals.PushReport.{PushReport}
 use Rattle.cosign_rows.specs.References.{tag_reference}
-use Rattle.free_targets.specs.FreeTargets.{target_free}
-use Rattle.free_targets.specs.Taken.{IsOfTarget, TagsWithin, taken_of}
-use Rattle.free_targets.specs.declared.refusals.TargetRefusal.{TargetRefusal}
-use Rattle.free_targets.specs.declared.refusals.TargetRefusal.TheVariants.{Taken, Unread}
-use Rattle.free_targets.specs.declared.refusals.TargetRefusal.TheVariants as tags
+use Rattle.live_copy.specs.FreeTargets.{target_free}
+use Rattle.live_copy.specs.Taken.{IsOfTarget, TagsWithin, taken_of}
+use Rattle.live_copy.specs.declared.refusals.TargetRefusal.{TargetRefusal}
+use Rattle.live_copy.specs.declared.refusals.TargetRefusal.TheVariants.{Taken, Unread}
+use Rattle.live_copy.specs.declared.refusals.TargetRefusal.TheVariants as tags
 use Rattle.live_copy.specs.Course.{AskedTags, ByFrames, Pushed, UnlessMemory, UnlessTagsMemory}
 
 -- what a refused copy states

@@ -5,7 +5,7 @@ use Rattle.serde_json.specs.Data.{Data}
 use Rattle.oci_auth.specs.declared.auth_state.AuthState.{AuthState}
 use Rattle.registry_calls.specs.Direct.{reference_in}
 use Rattle.oci_engine.specs.Kept.{auth_state_of}
-use Rattle.cosign_documents.specs.declared.documents.VerifiedDocuments.{VerifiedDocuments}
+use Rattle.cosign_chain.specs.declared.verified_documents.VerifiedDocuments.{VerifiedDocuments}
 use Rattle.cosign_rows.specs.Refusal.{is_memory}
 use Rattle.cosign_rows.specs.declared.refusal.PullRefusal.{PullRefusal}
 use Rattle.live_host.specs.HostErrors.{HostCause}
@@ -17,10 +17,10 @@ use Rattle.live_pull.specs.Parts.{DeliversBy}
 use Rattle.live_pull.specs.Status.{status_of}
 use Rattle.live_pull.specs.declared.status.Status.{Status}
 use Rattle.live_pull.specs.declared.status.Status.TheVariants as status
-use Rattle.live_documents.specs.Course.{DocumentsTold}
-use Rattle.live_documents.specs.Decided.{DecidedDocuments, EndsEarly}
-use Rattle.live_documents.proofs.Justifies.{sent}
-use Rattle.free_targets.specs.declared.refusals.TargetRefusal.{TargetRefusal}
+use Rattle.live_pull.specs.Course.{DocumentsTold}
+use Rattle.live_pull.specs.Decided.{DecidedDocuments, EndsEarly}
+use Rattle.live_pull.proofs.Justifies.{sent}
+use Rattle.live_copy.specs.declared.refusals.TargetRefusal.{TargetRefusal}
 use Rattle.pull_mirror.specs.declared.absences.DocumentsRefusal.{DocumentsRefusal}
 use Rattle.pull_mirror.specs.declared.refusals.PushReport.{PushReport}
 use Rattle.live_copy.specs.Course.{CopyEnds, CopyRefusal, CopyTold, LiveCopy, OfDocuments, OfTags, UnlessMemory, copied_of, copy_ran_out, refusal_print, tags_ran_out}

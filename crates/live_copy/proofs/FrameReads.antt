@@ -13,8 +13,8 @@ use Rattle.live_host.proofs.FrameWords.{behind_some}
 use Rattle.live_host.specs.Names.{frame_named}
 use Rattle.live_pull.specs.Settings.{documents_of}
 use Rattle.live_pull.specs.declared.settings.LiveSettings.{LiveSettings}
-use Rattle.live_carry.specs.Settings.{target_of}
-use Rattle.live_carry.specs.declared.settings.TargetSettings.{TargetSettings}
+use Rattle.live_pull.specs.Target.{target_of}
+use Rattle.live_pull.specs.declared.target.TargetSettings.{TargetSettings}
 use Rattle.live_copy.specs.Settings.{copy_of, members}
 
 refused_here : {A X : Type 0} (e : ReadError) (o : Option A) (k : A → Option X) → Refuses e o → Refuses e (o >>= k)

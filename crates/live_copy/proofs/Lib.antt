@@ -1,3 +1,5 @@
+pub mod AskedTags
+pub mod BothTags
 pub mod Calls
 pub mod Ending
 pub mod FrameReads

@@ -10,8 +10,8 @@ use Rattle.live_host.specs.Names.{frame_named}
 use Rattle.live_pull.proofs.Ready.{documents_ready}
 use Rattle.live_pull.specs.Settings.{IsReady, documents_of}
 use Rattle.live_pull.specs.declared.settings.LiveSettings.{LiveSettings}
-use Rattle.live_carry.proofs.Ready.{target_ready}
-use Rattle.live_carry.specs.Settings.{target_of}
+use Rattle.live_pull.proofs.TargetReady.{target_ready}
+use Rattle.live_pull.specs.Target.{target_of}
 use Rattle.live_copy.specs.Settings.{AreReady, copy_of, members}
 use Rattle.live_copy.specs.declared.settings.CopySettings.{CopySettings}
 

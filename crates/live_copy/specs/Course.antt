@@ -13,7 +13,7 @@ use Rattle.oci_transport.specs.declared.message.Exchange.{Exchange}
 use Rattle.engine_terms.specs.Contexts.{Context}
 use Rattle.engine_terms.specs.declared.error.OciDistributionError.{OciDistributionError}
 use Rattle.engine_rows.specs.Rows.{Row}
-use Rattle.cosign_documents.specs.declared.documents.VerifiedDocuments.{VerifiedDocuments}
+use Rattle.cosign_chain.specs.declared.verified_documents.VerifiedDocuments.{VerifiedDocuments}
 use Rattle.cosign_rows.specs.References.{tag_reference}
 use Rattle.cosign_rows.specs.Refusal.{is_memory}
 use Rattle.cosign_rows.specs.declared.refusal.PullRefusal.{PullRefusal}
@@ -25,7 +25,7 @@ use Rattle.live_pull.specs.Justified.{Shown}
 use Rattle.live_pull.specs.Pulls.{Carries}
 use Rattle.live_pull.specs.declared.status.Status.{Status}
 use Rattle.live_pull.specs.declared.status.Status.TheVariants as status
-use Rattle.live_documents.specs.LiveDocuments.{LiveDocuments}
+use Rattle.live_pull.specs.LiveDocuments.{LiveDocuments}
 use Rattle.pull_mirror.specs.Absences.{documents_print}
 use Rattle.pull_mirror.specs.Asked.{CopyWithin, outcome_of}
 use Rattle.pull_mirror.specs.DocumentCopies.{documents_copied}
@@ -34,12 +34,12 @@ use Rattle.pull_mirror.specs.Pushes.{digests_of}
 use Rattle.pull_mirror.specs.declared.absences.DocumentsRefusal.{DocumentsRefusal}
 use Rattle.pull_mirror.specs.declared.absences.DocumentsRefusal.TheVariants.{Missing, Refused, WantOfMemory}
 use Rattle.pull_mirror.specs.declared.refusals.PushReport.{PushReport}
-use Rattle.free_targets.specs.FreeTargets.{target_free}
-use Rattle.free_targets.specs.Prints.{target_print}
-use Rattle.free_targets.specs.Taken.{TagsWithin, taken_of}
-use Rattle.free_targets.specs.declared.refusals.TargetRefusal.{TargetRefusal}
-use Rattle.free_targets.specs.declared.refusals.TargetRefusal.TheVariants.{Taken, Unread}
-use Rattle.free_targets.specs.declared.refusals.TargetRefusal.TheVariants as tags
+use Rattle.live_copy.specs.FreeTargets.{target_free}
+use Rattle.live_copy.specs.Prints.{target_print}
+use Rattle.live_copy.specs.Taken.{TagsWithin, taken_of}
+use Rattle.live_copy.specs.declared.refusals.TargetRefusal.{TargetRefusal}
+use Rattle.live_copy.specs.declared.refusals.TargetRefusal.TheVariants.{Taken, Unread}
+use Rattle.live_copy.specs.declared.refusals.TargetRefusal.TheVariants as tags
 use Rattle.live_copy.specs.Heads.{carried_of, carry_head, copied_head, side_head}
 use Rattle.live_copy.specs.Opening.{asks_tags, target_context}
 use Rattle.live_copy.specs.declared.settings.CopySettings.{CopySettings}

@@ -1,5 +1,9 @@
 pub mod Course
+pub mod FreeTargets
 pub mod Heads
 pub mod Opening
 pub mod Parts
+pub mod Prints
 pub mod Settings
+pub mod Steps
+pub mod Taken

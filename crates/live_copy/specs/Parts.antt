@@ -5,13 +5,13 @@ use Rattle.registry_cache.specs.Auths.{registry_auth}
 use Rattle.registry_calls.specs.Direct.{reference_in}
 use Rattle.oci_engine.specs.Kept.{auth_state_of}
 use Rattle.oci_engine.specs.Refusals.{at_moment}
-use Rattle.cosign_documents.specs.declared.documents.VerifiedDocuments.{VerifiedDocuments}
+use Rattle.cosign_chain.specs.declared.verified_documents.VerifiedDocuments.{VerifiedDocuments}
 use Rattle.live_host.specs.HostErrors.{IsUnwritten}
 use Rattle.live_host.specs.Wire.{Wire, SendsAndReceives, SendsFrame}
 use Rattle.live_pull.specs.declared.status.Status.{Status}
 use Rattle.live_pull.specs.declared.status.Status.TheVariants as status
-use Rattle.live_documents.specs.Course.{DocumentsTold}
-use Rattle.free_targets.specs.declared.refusals.TargetRefusal.{TargetRefusal}
+use Rattle.live_pull.specs.Course.{DocumentsTold}
+use Rattle.live_copy.specs.declared.refusals.TargetRefusal.{TargetRefusal}
 use Rattle.pull_mirror.specs.declared.absences.DocumentsRefusal.{DocumentsRefusal}
 use Rattle.pull_mirror.specs.declared.refusals.PushReport.{PushReport}
 use Rattle.live_copy.specs.Course.{AtTarget, CopyRefusal, CopyTold, IsCopyBroken, Pushed, RefusalTold, TagsAsked}

@@ -7,7 +7,7 @@ use Rattle.json_tables.specs.Member.{required}
 use Rattle.oci_names.specs.Reference.{reference_of}
 use Rattle.live_host.specs.Names.{frame_named}
 use Rattle.live_pull.specs.Settings.{IsReady, documents_of}
-use Rattle.live_carry.specs.Settings.{target_of}
+use Rattle.live_pull.specs.Target.{target_of}
 use Rattle.live_copy.specs.declared.settings.CopySettings.{CopySettings}
 
 -- the members of the frame

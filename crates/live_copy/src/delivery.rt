@@ -6,9 +6,9 @@ ghost use Rattle.live_copy.specs.Course.{CopyTold, IsReport, OfDocuments, OfTags
 ghost use Rattle.live_copy.specs.Course.{tags_ran_out};
 ghost use Rattle.live_copy.specs.Parts.{EndsBy, EndsTelling};
 
+use crate::TargetRefusal;
 use crate::heads::copied_head;
 use byte_streams::{Sink, Source};
-use free_targets::TargetRefusal;
 use json_values::{Blob, Text};
 use live_host::{HostError, Streams, refused_head, tell};
 use live_pull::Status;

@@ -7,8 +7,13 @@ mod heads;
 mod live;
 mod opening;
 mod pushes;
+mod questions;
+mod refusals;
 mod settings;
 mod tags;
+mod targets;
 
 pub use live::serve_copy;
+pub use refusals::TargetRefusal;
 pub use settings::{CopySettings, read_copy_settings};
+pub use targets::free_target;

@@ -3,8 +3,8 @@ ghost use Rattle.std.specs.Prelude.{◌≡◌, [], codes, Err, IfErr, Ok, OnOk, 
 ghost use Rattle.live_host.specs.Names.{frame_named};
 ghost use Rattle.live_host.specs.Wire.{wire, SendsAndReceives, Wire};
 ghost use Rattle.live_pull.specs.Parts.{DeliversBy};
-ghost use Rattle.live_documents.specs.Course.{DocumentsTold};
-ghost use Rattle.live_documents.specs.Decided.{DecidedDocuments, Decides};
+ghost use Rattle.live_pull.specs.Course.{DocumentsTold};
+ghost use Rattle.live_pull.specs.Decided.{DecidedDocuments, Decides};
 ghost use Rattle.live_copy.specs.Course.{CopyEnds, CopyTold, OfTags};
 ghost use Rattle.live_copy.specs.Heads.{carried_of, carry_head};
 ghost use Rattle.live_copy.specs.Opening.{Opens};
@@ -13,6 +13,7 @@ ghost use Rattle.live_copy.specs.Parts.{PushedAndTold, TargetAndTold};
 ghost use Rattle.live_copy.specs.Settings.{AreReady};
 ghost use Rattle.live_copy.specs.declared.settings.CopySettings.{CopySettings as Settings};
 
+use crate::TargetRefusal;
 use crate::delivery::{deliver, deliver_taken};
 use crate::heads::{carry_head, side_head};
 use crate::opening::{Opened, open};
@@ -20,13 +21,13 @@ use crate::pushes::push;
 use crate::settings::CopySettings;
 use crate::tags::ask;
 use byte_streams::{Sink, Source};
+use cosign_chain::VerifiedDocuments;
 use cosign_client::PullRefusal;
-use cosign_documents::VerifiedDocuments;
-use free_targets::TargetRefusal;
 use json_values::Json;
-use live_documents::{Decided, deliver_error, give_decided, search_and_decide};
 use live_host::{Streams, hear, is_frame, tell};
-use live_pull::{Ended, LiveSettings, Status};
+use live_pull::{
+    Decided, Ended, LiveSettings, Status, deliver_error, give_decided, search_and_decide,
+};
 use pull_mirror::{DocumentsRefusal, PushReport};
 use std::alloc::Global;
 

@@ -6,7 +6,7 @@ ghost use Rattle.live_copy.specs.Settings.{AreReady};
 use crate::settings::CopySettings;
 use cosign_client::{Asked, ask_for};
 use json_values::Copied;
-use live_carry::TargetSettings;
+use live_pull::TargetSettings;
 use oci_engine::Client;
 use pull_mirror::CopyTarget;
 use std::alloc::{AllocError, Global};

@@ -5,7 +5,7 @@ ghost use Rattle.live_copy.specs.Parts.{PushedBy};
 
 use crate::opening::Opened;
 use byte_streams::{Sink, Source};
-use cosign_documents::VerifiedDocuments;
+use cosign_chain::VerifiedDocuments;
 use live_host::Streams;
 use live_link::StreamTransport;
 use pull_mirror::{DocumentsRefusal, PushReport, push_documents};

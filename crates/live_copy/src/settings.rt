@@ -7,9 +7,8 @@ ghost use Rattle.live_pull.specs.Settings.{documents_of};
 ghost use Rattle.live_copy.specs.Settings.{copy_of, AreReady};
 
 use json_tables::{ReadError, only, required};
-use live_carry::TargetSettings;
 use live_host::is_frame;
-use live_pull::{LiveSettings, read_document_settings};
+use live_pull::{LiveSettings, TargetSettings, read_document_settings};
 use serde_json::Value;
 use std::alloc::Global;
 

@@ -8,9 +8,9 @@ ghost use Rattle.live_copy.specs.Course.{AskedTags, UnlessTagsMemory};
 ghost use Rattle.live_copy.specs.Parts.{AskedBy, IsStill};
 
 use crate::opening::Opened;
+use crate::{TargetRefusal, free_target};
 use byte_streams::{Sink, Source};
-use cosign_documents::VerifiedDocuments;
-use free_targets::{TargetRefusal, free_target};
+use cosign_chain::VerifiedDocuments;
 use live_host::Streams;
 use live_link::StreamTransport;
 use std::alloc::Global;

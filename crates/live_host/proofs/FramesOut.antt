@@ -11,11 +11,11 @@ use Rattle.json_tables.proofs.Members.{fields_plain}
 use Rattle.byte_streams.specs.SinkState.{SinkState, Adds}
 use Rattle.byte_streams.proofs.Sinks.{adds_more}
 use Rattle.oci_manifests.specs.declared.blob.ImageLayer.{ImageLayer}
-use Rattle.oci_descriptors.specs.declared.descriptor.OciDescriptor.{OciDescriptor}
+use Rattle.oci_manifests.specs.declared.descriptor.OciDescriptor.{OciDescriptor}
 use Rattle.cosign_chain.specs.declared.image.VerifiedImage.{VerifiedImage}
-use Rattle.cosign_documents.specs.declared.documents.VerifiedDocuments.{VerifiedDocuments}
+use Rattle.cosign_chain.specs.declared.verified_documents.VerifiedDocuments.{VerifiedDocuments}
 use Rattle.live_host.specs.Heads.{count_field, item_head, signature_head, text_field}
-use Rattle.live_host.specs.Items.{Sent, WereTold, blobs_sent, config_sent, documents_sent, image_sent, index_sent, layers_sent, list_sent, manifest_sent, own_manifest_sent, pulled_sent, signature_sent}
+use Rattle.live_host.specs.Items.{Sent, WereTold, blobs_sent, config_sent, documents_sent, image_sent, index_sent, layers_sent, manifest_sent, pulled_sent, signature_sent}
 use Rattle.live_host.specs.Wire.{Wire, SendsFrame}
 
 -- a line followed by its bytes
@@ -52,16 +52,16 @@ pub one_less : (rest others : List ImageLayer) (layer : ImageLayer) → rest ≡
 one_less rest others layer is = rw is (omega arith)
 
 -- the whole image
-pub told_image : (blobs : Bool) (v : VerifiedImage) (a b c d e f : Wire) → WereTold (index_sent v v.list_digest) a b → SendsFrame (manifest_sent v).0 (manifest_sent v).1 b c
+pub told_image : (blobs : Bool) (v : VerifiedImage) (a b c d e f : Wire) → WereTold (index_sent v.list_digest v.first) a b → SendsFrame (manifest_sent v.manifest_digest v.manifest_bytes).0 (manifest_sent v.manifest_digest v.manifest_bytes).1 b c
     → SendsFrame (config_sent v).0 (config_sent v).1 c d → WereTold (blobs_sent blobs v) d e → SendsFrame (pulled_sent v).0 (pulled_sent v).1 e f → WereTold (image_sent blobs v) a f
 told_image blobs v a b c d e f index manifest config layers pulled =
-    told_both (index_sent v v.list_digest) (manifest_sent v ∷ config_sent v ∷ (blobs_sent blobs v ++ pulled_sent v ∷ [])) a b f index
+    told_both (index_sent v.list_digest v.first) (manifest_sent v.manifest_digest v.manifest_bytes ∷ config_sent v ∷ (blobs_sent blobs v ++ pulled_sent v ∷ [])) a b f index
     (c, manifest, (d, config, told_both (blobs_sent blobs v) (pulled_sent v ∷ []) d e f layers (f, pulled, refl)))
 
 -- documents alone, and the signature layer
-pub told_documents : (v : VerifiedDocuments) (a b c d : Wire) → WereTold (list_sent v v.list_digest) a b → SendsFrame (own_manifest_sent v).0 (own_manifest_sent v).1 b c → SendsFrame (signature_sent v.signature).0 (signature_sent v.signature).1 c d → WereTold (documents_sent v) a d
-told_documents v a b c d list manifest signature =
-    told_both (list_sent v v.list_digest) (own_manifest_sent v ∷ signature_sent v.signature ∷ []) a b d list (c, manifest, (d, signature, refl))
+pub told_documents : (v : VerifiedDocuments) (a b c d : Wire) → WereTold (index_sent v.list_digest v.first) a b → SendsFrame (manifest_sent v.manifest_digest v.manifest_bytes).0 (manifest_sent v.manifest_digest v.manifest_bytes).1 b c → SendsFrame (signature_sent v.signature).0 (signature_sent v.signature).1 c d → WereTold (documents_sent v) a d
+told_documents v a b c d index manifest signature =
+    told_both (index_sent v.list_digest v.first) (manifest_sent v.manifest_digest v.manifest_bytes ∷ signature_sent v.signature ∷ []) a b d index (c, manifest, (d, signature, refl))
 
 -- a signature layer's line has no float
 pub signature_plain : (kind digest : List ℕ) (annotations : FinMap by_bytes (List ℕ)) (count : ℕ) → has_float (signature_head kind digest annotations count) ≡ false

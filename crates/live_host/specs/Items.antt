@@ -6,10 +6,10 @@ use Rattle.json_values.specs.JsonText.{plain_json_of}
 use Rattle.json_tables.specs.Reading.{◌>>=◌}
 use Rattle.json_tables.specs.Paths.{text_at}
 use Rattle.oci_manifests.specs.declared.blob.ImageLayer.{ImageLayer}
-use Rattle.oci_descriptors.specs.declared.descriptor.OciDescriptor.{OciDescriptor}
+use Rattle.oci_manifests.specs.declared.descriptor.OciDescriptor.{OciDescriptor}
 use Rattle.cosign_parts.specs.declared.layer.SignatureLayer.{SignatureLayer}
 use Rattle.cosign_chain.specs.declared.image.VerifiedImage.{VerifiedImage}
-use Rattle.cosign_documents.specs.declared.documents.VerifiedDocuments.{VerifiedDocuments}
+use Rattle.cosign_chain.specs.declared.verified_documents.VerifiedDocuments.{VerifiedDocuments}
 use Rattle.live_host.specs.Heads.{item_head, kind_name, pulled_head, signature_head}
 use Rattle.live_host.specs.Wire.{Wire, SendsFrame}
 
@@ -45,12 +45,12 @@ abbrev pub document : List ℕ → List ℕ → List ℕ → List ℕ → Sent
 document kind usual digest bytes = item (codes "document") kind (media_type_of usual bytes) digest bytes
 
 -- the index, if one led to the manifest
-abbrev pub index_sent : VerifiedImage → Option (List ℕ) → List Sent
-index_sent v None = []
-index_sent v (Some list) = document (codes "index") index_type list v.first ∷ []
+abbrev pub index_sent : Option (List ℕ) → List ℕ → List Sent
+index_sent None bytes = []
+index_sent (Some digest) bytes = document (codes "index") index_type digest bytes ∷ []
 
-abbrev pub manifest_sent : VerifiedImage → Sent
-manifest_sent v = document (codes "manifest") manifest_type v.manifest_digest v.manifest_bytes
+abbrev pub manifest_sent : List ℕ → List ℕ → Sent
+manifest_sent digest bytes = document (codes "manifest") manifest_type digest bytes
 
 abbrev pub config_sent : VerifiedImage → Sent
 config_sent v = item (codes "blob") (codes "config") v.config.media_type v.manifest.config.digest v.config.content
@@ -74,17 +74,10 @@ pulled_sent v = (pulled_head v.digest v.manifest_digest v.signature.oci_digest, 
 -- the documents, the configuration, the layers, and the end
 abbrev pub image_sent : Bool → VerifiedImage → List Sent
 image_sent blobs v =
-    index_sent v v.list_digest ++ manifest_sent v ∷ config_sent v ∷ (blobs_sent blobs v ++ pulled_sent v ∷ [])
+    index_sent v.list_digest v.first ++ manifest_sent v.manifest_digest v.manifest_bytes ∷ config_sent v
+    ∷ (blobs_sent blobs v ++ pulled_sent v ∷ [])
 
 -- ---- documents alone
-
--- the index, if one led to the manifest
-abbrev pub list_sent : VerifiedDocuments → Option (List ℕ) → List Sent
-list_sent d None = []
-list_sent d (Some list) = document (codes "index") index_type list d.first ∷ []
-
-abbrev pub own_manifest_sent : VerifiedDocuments → Sent
-own_manifest_sent d = document (codes "manifest") manifest_type d.manifest_digest d.manifest_bytes
 
 -- the content of a signature layer, with its form, its digest and its annotations
 abbrev pub signature_sent : SignatureLayer → Sent
@@ -93,7 +86,9 @@ signature_sent layer =
 
 -- the index if one led to the manifest, the manifest, and the signature layer that stands for the digest
 abbrev pub documents_sent : VerifiedDocuments → List Sent
-documents_sent d = list_sent d d.list_digest ++ own_manifest_sent d ∷ signature_sent d.signature ∷ []
+documents_sent d =
+    index_sent d.list_digest d.first ++ manifest_sent d.manifest_digest d.manifest_bytes ∷ signature_sent d.signature
+    ∷ []
 
 -- the end of documents
 abbrev pub decided_sent : VerifiedDocuments → Sent

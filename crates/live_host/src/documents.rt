@@ -3,62 +3,15 @@ ghost use Rattle.std.specs.Prelude.{◌≡◌, IfErr, OnOk};
 ghost use Rattle.live_host.specs.Heads.{kind_name};
 ghost use Rattle.live_host.specs.HostErrors.{HostCause};
 ghost use Rattle.live_host.specs.Wire.{wire, SendsFrame};
-ghost use Rattle.live_host.specs.Items.{WereTold, list_sent, own_manifest_sent, signature_sent};
-ghost use Rattle.live_host.specs.Items.{documents_sent, decided_sent};
+ghost use Rattle.live_host.specs.Items.{WereTold, decided_sent, documents_sent, signature_sent};
 
 use crate::heads::{pulled_head, signature_head};
-use crate::image::{INDEX_TYPE, MANIFEST_TYPE};
-use crate::items::give_document;
+use crate::items::{give_index, give_manifest};
 use crate::streams::{HostError, Streams, tell};
 use byte_streams::{Sink, Source};
-use cosign_documents::VerifiedDocuments;
+use cosign_chain::VerifiedDocuments;
 use cosign_parts::{LayerKind, SignatureLayer};
 use std::alloc::Global;
-
-// The index, if one led to the manifest.
-fn give_list<S: Source, K: Sink>(
-    alloc: Global,
-    streams: &mut Streams<S, K>,
-    documents: &VerifiedDocuments,
-) -> Result<(), HostError>
-    ensures told { OnOk result (WereTold (list_sent documents.now documents.now.list_digest)
-        (wire S.state K.state streams.old) (wire S.state K.state streams.new)) }
-    ensures cause { IfErr result (λ e. HostCause e (wire S.state K.state streams.new)) }
-{
-    let Some(digest) = &documents.list_digest else {
-        return Ok(());
-    };
-    give_document(
-        alloc,
-        streams,
-        "index",
-        INDEX_TYPE,
-        digest,
-        &documents.first,
-    )?;
-    Ok(())
-}
-
-fn give_own_manifest<S: Source, K: Sink>(
-    alloc: Global,
-    streams: &mut Streams<S, K>,
-    documents: &VerifiedDocuments,
-) -> Result<(), HostError>
-    ensures told { OnOk result (SendsFrame (own_manifest_sent documents.now).0 (own_manifest_sent documents.now).1
-        (wire S.state K.state streams.old) (wire S.state K.state streams.new)) }
-    ensures cause { IfErr result (λ e. HostCause e (wire S.state K.state streams.new)) }
-{
-    let digest = &documents.manifest_digest;
-    give_document(
-        alloc,
-        streams,
-        "manifest",
-        MANIFEST_TYPE,
-        digest,
-        &documents.manifest_bytes,
-    )?;
-    Ok(())
-}
 
 // The name of a signature layer's form.
 fn kind_name(kind: LayerKind) -> &'static str
@@ -100,8 +53,13 @@ pub fn give_documents<S: Source, K: Sink>(
         (wire S.state K.state streams.old) (wire S.state K.state streams.new)) }
     ensures cause { IfErr result (λ e. HostCause e (wire S.state K.state streams.new)) }
 {
-    give_list(alloc, streams, documents)?;
-    give_own_manifest(alloc, streams, documents)?;
+    give_index(alloc, streams, &documents.list_digest, &documents.first)?;
+    give_manifest(
+        alloc,
+        streams,
+        &documents.manifest_digest,
+        &documents.manifest_bytes,
+    )?;
     give_signature(alloc, streams, &documents.signature)?;
     Ok(())
 }

@@ -1,18 +1,21 @@
 // Sending the parts of an image.
-ghost use Rattle.std.specs.Prelude.{◌≡◌, IfErr, OnOk, length};
+ghost use Rattle.std.specs.Prelude.{IfErr, OnOk, length};
 ghost use Rattle.live_host.specs.Heads.{item_head as head_of_item};
 ghost use Rattle.live_host.specs.HostErrors.{HostCause};
 ghost use Rattle.live_host.specs.Wire.{wire, SendsFrame};
-ghost use Rattle.live_host.specs.Items.{WereTold, media_type_of, layers_sent, codes_document};
+ghost use Rattle.live_host.specs.Items.{WereTold, codes_document, index_sent, layers_sent, manifest_sent, media_type_of};
 
 use crate::heads::item_head;
 use crate::media_type::media_type_of;
 use crate::streams::{HostError, Streams, tell};
 use byte_streams::{Sink, Source};
 use json_values::{Blob, Text};
-use oci_descriptors::OciDescriptor;
-use oci_manifests::ImageLayer;
+use oci_manifests::{ImageLayer, OciDescriptor};
 use std::alloc::Global;
+
+const INDEX_TYPE: &str = "application/vnd.oci.image.index.v1+json";
+
+const MANIFEST_TYPE: &str = "application/vnd.oci.image.manifest.v1+json";
 
 /// Sends bytes of an image under their digest.
 pub(crate) fn give<S: Source, K: Sink>(
@@ -50,6 +53,39 @@ pub(crate) fn give_document<S: Source, K: Sink>(
 {
     let media_type = media_type_of(alloc, usual, bytes.as_slice())?;
     give(alloc, streams, "document", kind, &media_type, digest, bytes)?;
+    Ok(())
+}
+
+/// Sends the index, if one led to the manifest.
+pub(crate) fn give_index<S: Source, K: Sink>(
+    alloc: Global,
+    streams: &mut Streams<S, K>,
+    list: &Option<Text>,
+    bytes: &Blob,
+) -> Result<(), HostError>
+    ensures told { OnOk result (WereTold (index_sent list.now bytes.now)
+        (wire S.state K.state streams.old) (wire S.state K.state streams.new)) }
+    ensures cause { IfErr result (λ e. HostCause e (wire S.state K.state streams.new)) }
+{
+    let Some(digest) = list else {
+        return Ok(());
+    };
+    give_document(alloc, streams, "index", INDEX_TYPE, digest, bytes)?;
+    Ok(())
+}
+
+/// Sends the manifest.
+pub(crate) fn give_manifest<S: Source, K: Sink>(
+    alloc: Global,
+    streams: &mut Streams<S, K>,
+    digest: &Text,
+    bytes: &Blob,
+) -> Result<(), HostError>
+    ensures told { OnOk result (SendsFrame (manifest_sent digest.now bytes.now).0 (manifest_sent digest.now bytes.now).1
+        (wire S.state K.state streams.old) (wire S.state K.state streams.new)) }
+    ensures cause { IfErr result (λ e. HostCause e (wire S.state K.state streams.new)) }
+{
+    give_document(alloc, streams, "manifest", MANIFEST_TYPE, digest, bytes)?;
     Ok(())
 }
 

@@ -1,7 +1,17 @@
+pub mod Bounds
 pub mod CarriedCalls
+pub mod CourseParts
 pub mod EarlyEnds
+pub mod Ending
+pub mod Grows
+pub mod Justifies
+pub mod Keeping
+pub mod Logs
 pub mod Loops
 pub mod Meanings
 pub mod PartsTogether
 pub mod Policies
 pub mod Ready
+pub mod RowsSame
+pub mod TargetReady
+pub mod Transfers

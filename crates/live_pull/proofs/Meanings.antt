@@ -6,7 +6,7 @@ use Rattle.std.specs.List.{All}
 use Rattle.std.proofs.lemmas.List.Elements.{All-nil, All-cons, All-head, All-tail}
 use Rattle.oci_names.specs.declared.reference.Reference.{Reference}
 use Rattle.oci_auth.specs.declared.auth.RegistryAuth.{RegistryAuth}
-use Rattle.oci_descriptors.specs.declared.promise.ResolverPromise.{ResolverPromise}
+use Rattle.oci_manifests.specs.declared.promise.ResolverPromise.{ResolverPromise}
 use Rattle.oci_transport.specs.declared.message.Exchange.{Exchange}
 use Rattle.engine_terms.specs.Contexts.{Context}
 use Rattle.registry_calls.specs.Clients.{Kept}

@@ -12,7 +12,7 @@ use json_tables::{ReadError, Reads, only, read_row};
 use json_values::{Blob, List, Text, row};
 use live_host::is_frame;
 use oci_auth::RegistryAuth;
-use oci_descriptors::PlatformResolver;
+use oci_manifests::PlatformResolver;
 use recorded_case::{Entries, OrUsual, Platform, ReferenceText, WrittenConstraint};
 use serde_json::Value;
 use std::alloc::Global;

@@ -32,7 +32,7 @@ use Rattle.locked_cases.specs.declared.refused.Refused.{Refused}
 pulled_to : (case : Case) (pull : OnePull) (result : Result VerifiedImage PullRefusal) → PulledOnce case pull → pull.outcome ≡ result → PulledTo case result
 pulled_to case pull result once is = record { talk = once.talk; pulled = once.pulled; is = once.outcome ∙ is }
 
--- the whole text of the reference that was asked for
+-- the whole text of the requested reference
 whole_is : (case : Case) (asked : Asked) → AsksFor case asked → whole_text (reference_in asked.image) ≡ whole_of case
 whole_is case asked a = ap whole_named (sym a.image)
 

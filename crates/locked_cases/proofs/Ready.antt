@@ -81,7 +81,7 @@ json_ready (Some d) = cases_ready d
 abbrev CheckReady : CheckInput → Type 0
 CheckReady input = IsReady input.case
 
-found_ready : (o : Option Data) (case : Case) → (o >>= case_of) ≡ Some case → IsReady case
+pub found_ready : (o : Option Data) (case : Case) → (o >>= case_of) ≡ Some case → IsReady case
 found_ready None case is = absurd (cc is)
 found_ready (Some d) case is = of case (case_of d) is (case_ready d) where
   of : (case : Case) (o : Option Case) → o ≡ Some case → IfSome o IsReady → IsReady case

@@ -11,7 +11,7 @@ use crate::input::CheckInput;
 use cosign_layers::{Constraint, PullPolicy};
 use cosign_parts::{LogKeys, TableJudge, TableVerifier};
 use json_values::{Blob, List};
-use oci_descriptors::{PlatformResolver, ResolverPromise};
+use oci_manifests::{PlatformResolver, ResolverPromise};
 use pull_lock::{Lock, LockError, LockVerdict, check_lock, read_lock};
 use pull_report::{print_line, text_line};
 use pulled_cases::Report;

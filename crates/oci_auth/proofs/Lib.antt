@@ -1,4 +1,12 @@
+pub mod Commas
+pub mod Cuts
 pub mod Dots
+pub mod ElementCommas
+pub mod ElementReadings
 pub mod Formatters
 pub mod Forms
+pub mod Fronts
+pub mod HeaderChallenges
 pub mod Places
+pub mod Quotes
+pub mod Soundness

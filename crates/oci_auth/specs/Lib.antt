@@ -1,8 +1,14 @@
 pub mod Auth
-pub mod Cache
-pub mod Expiration
-pub mod Kept
 pub mod AuthState
+pub mod Bearer
+pub mod Cache
+pub mod Classes
+pub mod Element
+pub mod Expiration
+pub mod Grammar
+pub mod Kept
 pub mod Operations
 pub mod Shown
+pub mod Split
 pub mod Token
+pub mod Words

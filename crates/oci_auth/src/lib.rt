@@ -4,16 +4,23 @@
 
 mod auth;
 mod auth_state;
+mod bearer;
 mod cache;
+mod challenge;
+mod element;
 mod expiration;
+mod grammar;
 mod kept;
 mod shown;
+mod split;
 mod token;
 mod token_type;
 
 pub use auth::RegistryAuth;
 pub use auth_state::{AuthState, store};
+pub use bearer::{BearerChallenge, ChallengeError};
 pub use cache::TokenCache;
+pub use challenge::{Challenge, challenges};
 pub use expiration::bearer_token_cache_expiration;
 pub use shown::write_basic;
 pub use token::{RegistryToken, TokenError};

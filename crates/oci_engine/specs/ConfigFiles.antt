@@ -1,7 +1,7 @@
 -- Configurations as configuration files (OCI image specification, config.md).
 use Rattle.std.specs.Prelude.{ℕ, List, Option, Some, None, Result, Ok, Err}
-use Rattle.oci_config.specs.Conversion.{file_in}
-use Rattle.oci_config.specs.declared.file.ConfigFile.{ConfigFile}
+use Rattle.oci_docs.specs.Conversion.{file_in}
+use Rattle.oci_docs.specs.declared.file.ConfigFile.{ConfigFile}
 use Rattle.engine_terms.specs.declared.error.OciDistributionError.{OciDistributionError}
 use Rattle.engine_terms.specs.declared.error.OciDistributionError.TheVariants.{ConfigConversionError}
 

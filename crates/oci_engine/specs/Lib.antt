@@ -9,6 +9,6 @@ pub use Rattle.engine_rows.specs.Confined
 pub use Rattle.engine_rows.specs.Held
 pub use Rattle.engine_rows.specs.TokenCauses
 pub use Rattle.engine_streams.specs.Causes as StreamCauses
-pub use Rattle.engine_listings.specs.Causes as ListingCauses
+pub use Rattle.engine_pull.specs.Causes as ListingCauses
 pub use Rattle.push_rows.specs.Causes as PushCauses
 pub use Rattle.push_rows.specs.ImageCauses as PublishCauses

@@ -1,5 +1,5 @@
 -- Why each call of a client was refused. The words are those of `Causes.antt` in `engine_rows`, and for streams, lists
--- and pushes of `Causes.antt` in `engine_streams`, `engine_listings` and `push_rows`.
+-- and pushes of `Causes.antt` in `engine_streams`, `engine_pull` and `push_rows`.
 use Rattle.std.specs.Prelude.{◌≡◌, ℕ, List, Option, Some, None, Result, Err, IfErr}
 use Rattle.json_values.specs.Counts.{Increased}
 use Rattle.oci_transport.specs.Link.{Link}
@@ -25,8 +25,8 @@ use Rattle.engine_rows.specs.Causes.{Cause, AnswerCause, DocumentCause, BadHeade
 use Rattle.engine_rows.specs.Causes.{BlobUrl, BlobCause, FoundCause, ConfigCause, ImageCause, IsRefusedAs}
 use Rattle.engine_streams.specs.declared.range.ByteRange.{ByteRange}
 use Rattle.engine_streams.specs.Causes.{StreamCause, StreamUrl}
-use Rattle.engine_listings.specs.Causes.{BadValue, ExistsUrl, ExistsAnswer, ListUrl, ListAnswer}
-use Rattle.engine_listings.specs.Listings.{tags_text, catalog_text}
+use Rattle.engine_pull.specs.Causes.{BadValue, ExistsUrl, ExistsAnswer, ListUrl, ListAnswer}
+use Rattle.engine_pull.specs.Listings.{tags_text, catalog_text}
 use Rattle.push_rows.specs.Causes.{UploadCause, MountCause}
 use Rattle.push_rows.specs.Images.{manifest_for}
 use Rattle.push_rows.specs.ImageCauses.{ManifestPushCause, ImagePushCause, blobs_of}

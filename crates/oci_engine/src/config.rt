@@ -4,7 +4,7 @@ ghost use Rattle.oci_engine.specs.Clients.{default_config};
 
 use engine_terms::ClientProtocol;
 use json_values::{Copied, Text, copied};
-use oci_descriptors::PlatformResolver;
+use oci_manifests::PlatformResolver;
 use std::alloc::{AllocError, Global};
 
 /// The maximum number of concurrent uploads of a client.

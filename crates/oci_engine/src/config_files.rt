@@ -5,7 +5,7 @@ ghost use Rattle.oci_engine.specs.ConfigFiles.{config_file};
 
 use engine_terms::OciDistributionError;
 use json_values::Copied;
-use oci_config::{ConfigError, ConfigFile};
+use oci_docs::{ConfigError, ConfigFile};
 use oci_manifests::blob::Config;
 use std::alloc::Global;
 

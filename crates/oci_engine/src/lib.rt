@@ -20,17 +20,16 @@ pub use config::{
     DEFAULT_TOKEN_EXPIRATION_SECS,
 };
 pub use config_files::config_file;
-pub use engine_publish::PushResponse;
-pub use engine_push::{MemoryPieces, PieceSource, PushBlobStreamChunkedResponse};
+pub use engine_push::{MemoryPieces, PieceSource, PushBlobStreamChunkedResponse, PushResponse};
 pub use engine_requests::{AsLayerDescriptor, LayerDescriptor};
 pub use engine_rows::ImageData;
 pub use engine_streams::{BlobResponse, SizedStream};
 pub use engine_terms::{
     ClientProtocol, GenericCause, OciDistributionError, Settings, SpecViolation,
 };
-pub use oci_descriptors::{
+pub use oci_docs::{CatalogResponse, TagResponse};
+pub use oci_manifests::{
     PlatformResolver, ResolverPromise, current_platform_resolver, linux_amd64_resolver,
     windows_amd64_resolver,
 };
-pub use oci_docs::{CatalogResponse, TagResponse};
 pub use source::ClientConfigSource;

@@ -8,8 +8,8 @@ ghost use Rattle.oci_transport.specs.Headers.{is_header_value};
 ghost use Rattle.engine_terms.specs.Error.{is_memory};
 ghost use Rattle.engine_requests.specs.Addresses.{blob_text};
 ghost use Rattle.engine_rows.specs.Causes.{IsEarly};
-ghost use Rattle.engine_listings.specs.Causes.{ExistsAnswered, ListAnswered};
-ghost use Rattle.engine_listings.specs.Listings.{blob_exists, list_tags, catalog, tags_text, catalog_text};
+ghost use Rattle.engine_pull.specs.Causes.{ExistsAnswered, ListAnswered};
+ghost use Rattle.engine_pull.specs.Listings.{blob_exists, list_tags, catalog, tags_text, catalog_text};
 ghost use Rattle.oci_engine.specs.Confinement.{StaysFor};
 ghost use Rattle.oci_engine.specs.Kept.{auth_state_of};
 ghost use Rattle.oci_engine.specs.Refusals.{RefusedFor, FaultCounted, UrlRefused, at_moment};
@@ -57,7 +57,7 @@ impl Client {
         lent!(
             self,
             memory,
-            engine_listings::blob_exists(alloc, transport, &mut memory, &call, digest)
+            engine_pull::blob_exists(alloc, transport, &mut memory, &call, digest)
         )
     }
 
@@ -101,7 +101,7 @@ impl Client {
         lent!(
             self,
             memory,
-            engine_listings::list_tags(alloc, transport, &mut memory, &call, auth, n, last)
+            engine_pull::list_tags(alloc, transport, &mut memory, &call, auth, n, last)
         )
     }
 
@@ -145,7 +145,7 @@ impl Client {
         lent!(
             self,
             memory,
-            engine_listings::catalog(alloc, transport, &mut memory, &call, auth, n, last)
+            engine_pull::catalog(alloc, transport, &mut memory, &call, auth, n, last)
         )
     }
 }

@@ -19,7 +19,7 @@ ghost use Rattle.oci_engine.specs.Refusals.{RefusedFor, FaultCounted, UrlRefused
 ghost use Rattle.oci_engine.specs.Refusals.{ManifestPushRefused, ImagePushRefused};
 
 use crate::client::{Client, lent};
-use engine_publish::{PushResponse, PushedImage};
+use engine_push::{PushResponse, PushedImage};
 use engine_terms::{Call, OciDistributionError};
 use json_values::{Blob, Text};
 use oci_auth::RegistryAuth;
@@ -70,7 +70,7 @@ impl Client {
         lent!(
             self,
             memory,
-            engine_publish::push_manifest_raw(
+            engine_push::push_manifest_raw(
                 alloc,
                 transport,
                 &mut memory,
@@ -117,7 +117,7 @@ impl Client {
         lent!(
             self,
             memory,
-            engine_publish::push_manifest(alloc, transport, &mut memory, &call, manifest)
+            engine_push::push_manifest(alloc, transport, &mut memory, &call, manifest)
         )
     }
 
@@ -159,14 +159,7 @@ impl Client {
         lent!(
             self,
             memory,
-            engine_publish::push_manifest_list(
-                alloc,
-                transport,
-                &mut memory,
-                &call,
-                auth,
-                manifest,
-            )
+            engine_push::push_manifest_list(alloc, transport, &mut memory, &call, auth, manifest,)
         )
     }
 
@@ -214,7 +207,7 @@ impl Client {
         lent!(
             self,
             memory,
-            engine_publish::push(alloc, transport, &mut memory, &call, auth, image)
+            engine_push::push(alloc, transport, &mut memory, &call, auth, image)
         )
     }
 }

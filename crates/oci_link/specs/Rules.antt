@@ -3,9 +3,9 @@ use Rattle.std.specs.Prelude.{ℕ, Bool, true, false, not, ◌&&◌, ◌||◌, L
 use Rattle.std.specs.Prelude.{bytes_eq, nat_eq, is_some, if◌then◌else◌}
 use Rattle.std.specs.List.{list_any, starts_with}
 use Rattle.url.specs.Parts.{Parts}
-use Rattle.http_challenges.specs.Bearer.{in_header}
-use Rattle.http_challenges.specs.declared.bearer.BearerChallenge.{BearerChallenge}
-use Rattle.http_challenges.specs.declared.bearer.ChallengeError.{ChallengeError}
+use Rattle.oci_auth.specs.Bearer.{in_header}
+use Rattle.oci_auth.specs.declared.bearer.BearerChallenge.{BearerChallenge}
+use Rattle.oci_auth.specs.declared.bearer.ChallengeError.{ChallengeError}
 use Rattle.oci_transport.specs.Headers.{Fields, first_of}
 use Rattle.oci_transport.specs.Urls.{request_url, registry_text, host_of, same_text, targets}
 use Rattle.oci_transport.specs.declared.message.Request.{Request}

@@ -15,7 +15,7 @@ mod table;
 
 pub use faulty_shelf::FaultyShelf;
 pub use guarded::Guarded;
-pub use http_challenges::{BearerChallenge, Challenge, ChallengeError, challenges};
+pub use oci_auth::{BearerChallenge, Challenge, ChallengeError, challenges};
 pub use oci_transport::{
     Answer, AnswerHead, BodyError, Conversation, DIGEST_HEADER, Exchange, HeaderError, Headers,
     LinkError, Method, Recorded, Request, Script, Transport, UrlError, header_text, read_body,

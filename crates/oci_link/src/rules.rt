@@ -6,8 +6,8 @@ ghost use Rattle.oci_transport.specs.Urls.{request_url};
 ghost use Rattle.std.specs.List.{list_any};
 ghost use Rattle.oci_link.specs.Rules.{passes, realm_by, realm_named, shows, url_passes};
 
-use http_challenges::{BearerChallenge, ChallengeError};
 use json_values::{List, Text};
+use oci_auth::{BearerChallenge, ChallengeError};
 use oci_transport::{Headers, Method, Request, UrlError, registry_url, request_url, targets};
 use std::alloc::{AllocError, Global};
 use url::Url;

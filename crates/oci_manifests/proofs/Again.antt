@@ -8,13 +8,13 @@ use Rattle.json_tables.specs.Member.{present, unless_null}
 use Rattle.json_tables.specs.Fields.{fields}
 use Rattle.json_tables.specs.Again.{ReadsAgain, MemberReadsAgain}
 use Rattle.json_tables.proofs.Members.{among, or_else, or_else-none, get-fields, fields_plain}
-use Rattle.oci_descriptors.specs.declared.descriptor.OciDescriptor.{OciDescriptor}
-use Rattle.oci_descriptors.specs.declared.index_entry.ImageIndexEntry.{ImageIndexEntry}
+use Rattle.oci_manifests.specs.declared.descriptor.OciDescriptor.{OciDescriptor}
+use Rattle.oci_manifests.specs.declared.index_entry.ImageIndexEntry.{ImageIndexEntry}
 use Rattle.oci_manifests.specs.declared.manifest.OciImageManifest.{OciImageManifest}
 use Rattle.oci_manifests.specs.declared.index.OciImageIndex.{OciImageIndex}
-use Rattle.oci_descriptors.specs.Descriptor.{descriptor_of, descriptor_written}
-use Rattle.oci_descriptors.specs.IndexEntry.{entry_of, entry_written}
-use Rattle.oci_descriptors.proofs.MembersAgain.{Optional, Present}
+use Rattle.oci_manifests.specs.Descriptor.{descriptor_of, descriptor_written}
+use Rattle.oci_manifests.specs.IndexEntry.{entry_of, entry_written}
+use Rattle.oci_manifests.proofs.MembersAgain.{Optional, Present}
 use Rattle.oci_manifests.specs.Manifest.{manifest_of, manifest_fields, manifest_written}
 use Rattle.oci_manifests.specs.Index.{index_of, index_fields, index_written}
 

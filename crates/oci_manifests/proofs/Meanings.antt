@@ -9,8 +9,8 @@ use Rattle.json_tables.proofs.Members.{get-fields}
 use Rattle.oci_manifests.specs.declared.manifest.OciImageManifest.{OciImageManifest}
 use Rattle.oci_manifests.specs.declared.index.OciImageIndex.{OciImageIndex}
 use Rattle.oci_manifests.specs.declared.document.OciManifest.TheVariants.{Image, ImageIndex}
-use Rattle.oci_descriptors.specs.Descriptor.{descriptor_of}
-use Rattle.oci_descriptors.specs.IndexEntry.{entry_of}
+use Rattle.oci_manifests.specs.Descriptor.{descriptor_of}
+use Rattle.oci_manifests.specs.IndexEntry.{entry_of}
 use Rattle.oci_manifests.specs.Manifest.{manifest_of, manifest_fields, manifest_written}
 use Rattle.oci_manifests.specs.Index.{index_of, index_fields, index_written}
 use Rattle.oci_manifests.specs.Document.{document_of, one_of, ReadsManifest}

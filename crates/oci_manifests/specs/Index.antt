@@ -6,7 +6,7 @@ use Rattle.json_tables.specs.Reading.{◌>>=◌, text_of, u8_of, list_of, map_of
 use Rattle.json_tables.specs.Member.{required, optional}
 use Rattle.json_tables.specs.Fields.{Field, fields}
 use Rattle.oci_manifests.specs.declared.index.OciImageIndex.{OciImageIndex}
-use Rattle.oci_descriptors.specs.IndexEntry.{entry_of, entry_written}
+use Rattle.oci_manifests.specs.IndexEntry.{entry_of, entry_written}
 
 unfoldable pub index_of : Data → Option OciImageIndex
 index_of d = do

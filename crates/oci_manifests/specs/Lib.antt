@@ -1,8 +1,16 @@
+pub mod AnnotationNames
 pub mod Blob
 pub mod Build
+pub mod Descriptor
 pub mod Document
 pub mod Headers
 pub mod Index
+pub mod IndexEntry
+pub mod LayerTypes
 pub mod Manifest
+pub mod MediaTypes
+pub mod Platform
+pub mod Promise
+pub mod Resolvers
 pub mod Types
 pub mod Versioned

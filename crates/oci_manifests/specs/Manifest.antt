@@ -6,7 +6,7 @@ use Rattle.json_tables.specs.Reading.{◌>>=◌, text_of, u8_of, list_of, map_of
 use Rattle.json_tables.specs.Member.{required, optional}
 use Rattle.json_tables.specs.Fields.{Field, fields}
 use Rattle.oci_manifests.specs.declared.manifest.OciImageManifest.{OciImageManifest}
-use Rattle.oci_descriptors.specs.Descriptor.{descriptor_of, descriptor_written}
+use Rattle.oci_manifests.specs.Descriptor.{descriptor_of, descriptor_written}
 
 unfoldable pub manifest_of : Data → Option OciImageManifest
 manifest_of d = do

@@ -4,8 +4,8 @@ ghost use Rattle.oci_digests.specs.Names.{digest_text};
 ghost use Rattle.oci_names.specs.declared.algorithm.Algorithm.TheVariants.{Sha256};
 ghost use Rattle.oci_manifests.specs.Blob.{typed_layer, typed_config};
 
+use crate::{layer_types, media_types};
 use json_values::{Annotations, Blob, Copied, Text, copied};
-use oci_descriptors::{layer_types, media_types};
 use std::alloc::{AllocError, Global};
 
 /// The bytes of a layer, their media type, and the annotations of its descriptor.

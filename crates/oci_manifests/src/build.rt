@@ -1,12 +1,12 @@
 //! Builds manifests from layers and a configuration.
 ghost use Rattle.std.specs.Prelude.{◌≡◌, [], None, IfOk, map};
 ghost use Rattle.oci_manifests.specs.Build.{descriptor_for, manifest_with, layer_descriptor, built};
-ghost use Rattle.oci_descriptors.specs.Descriptor.{empty_descriptor};
+ghost use Rattle.oci_manifests.specs.Descriptor.{empty_descriptor};
 
+use crate::OciDescriptor;
 use crate::blob::{Config, ImageLayer};
 use crate::manifest::OciImageManifest;
 use json_values::{Annotations, Blob, Copied, List, Text};
-use oci_descriptors::OciDescriptor;
 use std::alloc::{AllocError, Global};
 
 impl OciImageManifest {

@@ -4,9 +4,9 @@ ghost use Rattle.oci_manifests.specs.Document.{ReadsManifest, content_type_of};
 
 use crate::index::OciImageIndex;
 use crate::manifest::OciImageManifest;
+use crate::{IMAGE_MANIFEST_LIST_MEDIA_TYPE, OCI_IMAGE_MEDIA_TYPE};
 use json_tables::{ReadError, holds_float, read_or_none};
 use json_values::{Copied, Text, ToValue};
-use oci_descriptors::{IMAGE_MANIFEST_LIST_MEDIA_TYPE, OCI_IMAGE_MEDIA_TYPE};
 use serde_json::Value;
 use std::alloc::{AllocError, Global};
 

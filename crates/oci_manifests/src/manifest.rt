@@ -2,9 +2,9 @@ ghost use Rattle.std.specs.Prelude.{◌≡◌, IfOk, Ok};
 ghost use Rattle.serde_json.specs.View.{view};
 ghost use Rattle.json_tables.specs.Outcomes.{ReadsDocument};
 
+use crate::OciDescriptor;
 use json_tables::{ReadError, Reads, Required, object, read_document, read_row};
 use json_values::{Annotations, Copied, List, Text, ToValue, copied, row};
-use oci_descriptors::OciDescriptor;
 use serde_json::Value;
 use std::alloc::{AllocError, Global};
 

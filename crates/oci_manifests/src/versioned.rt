@@ -3,9 +3,9 @@ ghost use Rattle.serde_json.specs.View.{view};
 ghost use Rattle.json_tables.specs.Outcomes.{ReadsDocument};
 ghost use Rattle.oci_manifests.specs.Types.{is_manifest_type};
 
+use crate::media_types;
 use json_tables::{ReadError, Reads, read_document, read_row};
 use json_values::{Copied, Text, row};
-use oci_descriptors::media_types;
 use serde_json::Value;
 use std::alloc::{AllocError, Global};
 

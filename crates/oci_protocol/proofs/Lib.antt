@@ -1,5 +1,6 @@
 pub mod Conversations
 pub mod Ends
+pub mod Exits
 pub mod KeptFacts
 pub mod Laws
 pub mod OneMoreExchange

@@ -1,4 +1,7 @@
+pub mod Agreeing
 pub mod Allowed
 pub mod OneImages
+pub mod Ready
 pub mod Reviewing
+pub mod Reviews
 pub mod Texts

@@ -26,8 +26,8 @@ use Rattle.cosign_rows.specs.Sound.{Sound}
 use Rattle.cosign_rows.specs.Verified.{Whole}
 use Rattle.cosign_rows.specs.declared.refusal.PullRefusal.{PullRefusal}
 use Rattle.cosign_rows.specs.declared.refusal.PullRefusal.TheVariants.{WantOfMemory}
-use Rattle.cosign_shelves.specs.Settled.{IsSettled, StaysSettled}
-use Rattle.cosign_shelves.specs.Shelves.{AnswersFrom, WideShelf, OkOrMemory}
+use Rattle.cosign_laws.specs.Settled.{IsSettled, StaysSettled}
+use Rattle.cosign_laws.specs.Shelves.{AnswersFrom, WideShelf, OkOrMemory}
 use Rattle.pull_admit.specs.Causes.{CountsFault, HoldsNoMemory}
 use Rattle.pull_admit.specs.Confining.{EachConfined, ConfinedFor}
 use Rattle.pull_admit.specs.Decided.{PullTerms, DecidedBy, RanBy, Reviewed, pull_of}
@@ -195,13 +195,13 @@ pub decided_ok : {E V : Type 0} {H : V → Type 0} (t : PullTerms V H) (image : 
 decided_ok t image {old} {new} {k} {l} (Ok d) o is whole f = λ x parses. subst (Decided t x old new k l) (sym is) (f whole x parses)
 decided_ok t image (Err e) o is whole f = tt
 
--- if there is a decision about a text that is not a reference, it says so
+-- if there is a decision about a string that is not a reference, it says so
 pub unread_ok : {E V : Type 0} {H : V → Type 0} (t : PullTerms V H) (x : ReviewImage) (link : Link) (k : Kept) (r : Result Decision E) → IfOk r (λ d. d ≡ Deny (NotAReference x.image)) → IsErr (reference_of x.image)
     → IfOk r (λ d. Decided t x link link k k d)
 unread_ok t x link k (Ok d) is none = subst (Decided t x link link k k) (sym is) (decided_unread t x link k none)
 unread_ok t x link k (Err e) is none = tt
 
--- a text that does not parse
+-- a string that does not parse
 pub unparsed : (b : Bool) (r : Result Reference ParseError) → b ≡ is_ok r → b ≡ false → IsErr r
 unparsed b (Ok a) is none = absurd (cc (sym is ∙ none))
 unparsed b (Err e) is none = refl

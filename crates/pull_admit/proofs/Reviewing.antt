@@ -18,7 +18,7 @@ use Rattle.oci_protocol.specs.Runs.{Told}
 use Rattle.oci_protocol.proofs.Conversations.{Extends-more, Extends-none}
 use Rattle.registry_calls.specs.Clients.{Kept}
 use Rattle.cosign_rows.specs.Snapshots.{Snapshot, snapshot}
-use Rattle.cosign_shelves.specs.Shelves.{AnswersFrom}
+use Rattle.cosign_laws.specs.Shelves.{AnswersFrom}
 use Rattle.pull_admit.specs.Causes.{CountsFault, EachFaultCounted, HoldsNoMemory}
 use Rattle.pull_admit.specs.Complete.{IsAtRegistry, SettledAt, EachAllowedIfThere, AllowedIfThere}
 use Rattle.pull_admit.specs.Confining.{EachConfined}
@@ -84,7 +84,7 @@ faults_more : (old mid new : Link) (ds : List Decision) (d : Decision) → old.f
 faults_more old mid new ds d before after each one =
     All-push (CountsFault old new) ds d (All-weaker (CountsFault old mid) (CountsFault old new) (λ y h is. later old.faults mid.faults new.faults after (h is)) ds each) (λ is. earlier old.faults mid.faults new.faults before (one is))
 
--- ---- images that are there
+-- ---- images that are present
 
 allowed_more : {V : Type 0} {H : V → Type 0} (t : PullTerms V H) (shelf : Shelf) (xs : List ReviewImage) (ds : List Decision) (x : ReviewImage) (d : Decision) → EachAllowedIfThere t shelf xs ds → AllowedIfThere t shelf x d → EachAllowedIfThere t shelf (xs ++ x ∷ []) (ds ++ d ∷ [])
 allowed_more t shelf [] [] x d h one = (one, tt)
@@ -146,7 +146,7 @@ keeps_more t xs x old mid new k j l before one = record {
       one.settled shelf registry mid_way.0 (all_last (IsAtRegistry registry) xs x at) mid_way.1;
 }
 
--- images after those that were looked at
+-- images after those that were decided
 pub keeps_before : {V : Type 0} {H : V → Type 0} (t : PullTerms V H) (xs ys : List ReviewImage) (old new : Link) (k l : Kept) → KeepsSoFar t xs old new k l → KeepsSoFar t (xs ++ ys) old new k l
 keeps_before t xs ys old new k l kept = record {
   confined = record {

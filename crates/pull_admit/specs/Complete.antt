@@ -6,8 +6,8 @@ use Rattle.oci_auth.specs.declared.auth.RegistryAuth.{RegistryAuth}
 use Rattle.oci_link.specs.declared.shelf.Shelf.{Shelf}
 use Rattle.engine_terms.specs.declared.settings.Settings.{Settings}
 use Rattle.registry_calls.specs.Clients.{Kept}
-use Rattle.cosign_shelves.specs.Settled.{IsSettled}
-use Rattle.cosign_shelves.specs.Shelves.{WideShelf}
+use Rattle.cosign_laws.specs.Settled.{IsSettled}
+use Rattle.cosign_laws.specs.Shelves.{WideShelf}
 use Rattle.pull_admit.specs.Decided.{PullTerms}
 use Rattle.pull_admit.specs.Responses.{IsAllowed}
 use Rattle.pull_admit.specs.declared.decision.Decision.{Decision}

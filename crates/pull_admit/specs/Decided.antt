@@ -71,7 +71,7 @@ pub record WasRefused {V : Type 0} {H : V → Type 0} (known : Option Answering)
   pub cause : PullCause t.policy_context t.context image t.auth t.accepted start c end e
   pub memory : is_memory e ≡ false
 
--- nothing is requested for a text that is not a reference; any other is a whole run of the pull
+-- nothing is requested for a string that is not a reference; any other is a whole run of the pull
 abbrev pub DecidedBy : {V : Type 0} {H : V → Type 0} → Option Answering → ℕ → PullTerms V H → ReviewImage → Snapshot
     → List Exchange → Snapshot → Decision → Type 0
 DecidedBy known place t x start c end (Allow v) = WasPulled known place t x.image start c end v

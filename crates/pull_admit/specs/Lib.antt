@@ -2,5 +2,9 @@ pub mod Causes
 pub mod Complete
 pub mod Confining
 pub mod Decided
+pub mod Input
 pub mod OneImage
+pub mod Replayed
 pub mod Responses
+pub mod ReviewResponses
+pub mod Verdicts

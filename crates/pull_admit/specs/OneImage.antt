@@ -15,7 +15,7 @@ use Rattle.cosign_chain.specs.declared.image.VerifiedImage.{VerifiedImage}
 use Rattle.cosign_rows.specs.Refusal.{is_memory}
 use Rattle.cosign_rows.specs.Snapshots.{snapshot}
 use Rattle.cosign_rows.specs.declared.refusal.PullRefusal.{PullRefusal}
-use Rattle.cosign_shelves.specs.Shelves.{AnswersFrom}
+use Rattle.cosign_laws.specs.Shelves.{AnswersFrom}
 use Rattle.pull_admit.specs.Causes.{CountsFault, EachFaultCounted, HoldsNoMemory}
 use Rattle.pull_admit.specs.Complete.{IsAtRegistry, SettledAt, AllowedIfThere, EachAllowedIfThere}
 use Rattle.pull_admit.specs.Confining.{EachConfined}

@@ -32,7 +32,7 @@ fn word(out: &mut Blob, text: &str) -> Result<(), AllocError>
     out.append(text.as_bytes())
 }
 
-// Appends the print of a text that is not a reference.
+// Appends the print of a string that is not a reference.
 fn print_unread(alloc: Global, out: &mut Blob, text: &Text) -> Result<(), AllocError>
     ensures { OnOk result (out.new ≡ out.old ++ cause_print (NotAReference text.now)) }
 {

@@ -7,7 +7,7 @@ ghost use Rattle.registry_cache.specs.Auths.{registry_auth};
 ghost use Rattle.registry_calls.specs.Direct.{reference_in};
 ghost use Rattle.cosign_client.specs.State.{client_state, trusts};
 ghost use Rattle.cosign_rows.specs.Refusal.{is_memory};
-ghost use Rattle.cosign_shelves.specs.Shelves.{AnswersFrom};
+ghost use Rattle.cosign_laws.specs.Shelves.{AnswersFrom};
 ghost use Rattle.pull_admit.specs.Causes.{EachFaultCounted, HoldsNoMemory};
 ghost use Rattle.pull_admit.specs.Complete.{EachAllowedIfThere, IsAtRegistry, SettledAt};
 ghost use Rattle.pull_admit.specs.Confining.{EachConfined};
@@ -80,7 +80,7 @@ fn decide(outcome: Result<VerifiedImage, PullRefusal>) -> Result<Decision, Alloc
     }
 }
 
-// The decision about a text that is not a reference.
+// The decision about a string that is not a reference.
 fn unreadable(alloc: Global, text: &Text) -> Result<Decision, AllocError>
     ensures { IfOk result (λ d. d ≡ Deny (NotAReference text.now)) }
 {
@@ -205,7 +205,7 @@ fn review_each<T: Transport, V: SignatureVerifier, O: Offline>(
 
 /// Decides about the images of a review, in order: each whose text is a reference is pulled as
 /// `Client::verified_pull` does, by the client as the images before it left it, and is allowed if it was pulled. The
-/// decisions are `NotAReference` for a text that is not a reference, for which no request is sent, and `Refused` for
+/// decisions are `NotAReference` for a string that is not a reference, for which no request is sent, and `Refused` for
 /// an image that was not pulled. `moment` is in seconds since 1970.
 ///
 /// Returns an error if memory runs out, and no decisions then.

@@ -19,12 +19,12 @@ use Rattle.cosign_layers.specs.declared.policy.PullPolicy.{PullPolicy}
 use Rattle.cosign_parts.specs.declared.verifier.TableVerifier.{TableVerifier}
 use Rattle.cosign_chain.specs.declared.image.VerifiedImage.{VerifiedImage}
 use Rattle.cosign_rows.specs.Refusal.{is_memory}
-use Rattle.cosign_shelves.specs.Settled.{IsSettled}
-use Rattle.cosign_shelves.specs.Shelves.{AnswersFrom, OkOrMemory, ValidShelf}
+use Rattle.cosign_laws.specs.Settled.{IsSettled}
+use Rattle.cosign_laws.specs.Shelves.{AnswersFrom, OkOrMemory, ValidShelf}
 use Rattle.cosign_rows.specs.Verified.{verified}
 use Rattle.cosign_rows.specs.declared.refusal.PullRefusal.{PullRefusal}
 use Rattle.cosign_rows.specs.declared.refusal.PullRefusal.TheVariants as refusal
-use Rattle.generated_image.specs.Shelf.{generated_shelf, HasTwoDigests}
+use Rattle.pull_generated.specs.Shelf.{generated_shelf, HasTwoDigests}
 use Rattle.pull_generated.specs.Terms.{generated_settings, generated_context, fresh, generated_reference, generated_types, any_layer, generated_policy, signed_row, meaning_with, generated_row, PullsGenerated, IsCount}
 use Rattle.pull_generated.proofs.Valid.{valid}
 

@@ -1,3 +1,15 @@
 pub mod Calls
+pub mod ImageTexts
+pub mod Layer
+pub mod Lengths
+pub mod Made
+pub mod ManifestTexts
+pub mod Manifests
+pub mod Maps
+pub mod OneLayerMore
+pub mod Payload
+pub mod Plain
+pub mod PlainTexts
 pub mod References
+pub mod ShelfContents
 pub mod Valid

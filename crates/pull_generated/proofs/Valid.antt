@@ -26,7 +26,7 @@ use Rattle.oci_digests.proofs.Equal.{named}
 use Rattle.oci_names.specs.Reference.{reads_back}
 use Rattle.oci_auth.specs.declared.auth.RegistryAuth.TheVariants.{Anonymous}
 use Rattle.oci_manifests.specs.declared.blob.ImageLayer.{ImageLayer}
-use Rattle.oci_descriptors.specs.declared.descriptor.OciDescriptor.{OciDescriptor}
+use Rattle.oci_manifests.specs.declared.descriptor.OciDescriptor.{OciDescriptor}
 use Rattle.oci_transport.specs.Urls.{request_url}
 use Rattle.oci_link.specs.Leads.{entry_leads, redirects_lead}
 use Rattle.engine_rows.specs.Image.{layer_of}
@@ -41,12 +41,12 @@ use Rattle.cosign_parts.specs.declared.layer.SignatureLayer.{SignatureLayer}
 use Rattle.cosign_layers.proofs.Layers.{gives}
 use Rattle.cosign_rows.specs.Part.{named_layer, read_layer}
 use Rattle.cosign_rows.specs.References.{signature_tag}
-use Rattle.cosign_shelves.specs.Shelves.{IsAsked, HasSatisfyingLayer, SignedByTag, ValidShelf, read_on, digest_on}
-use Rattle.generated_image.specs.Shelf.{tag_for, payload_of, generated_shelf, HasTwoDigests}
-use Rattle.generated_image.specs.Texts.{sha256_text, image_text, payload_type, signatures_text}
-use Rattle.generated_image.proofs.Layer.{input_of, layer_for, layer_is, spells}
-use Rattle.generated_image.proofs.ManifestTexts.{describing, signatures_manifest}
-use Rattle.generated_image.proofs.ShelfContents.{image_on, has_signatures, payload_blobs, payload_there, tagged, signatures_tagged, is_short}
+use Rattle.cosign_laws.specs.Shelves.{IsAsked, HasSatisfyingLayer, SignedByTag, ValidShelf, read_on, digest_on}
+use Rattle.pull_generated.specs.Shelf.{tag_for, payload_of, generated_shelf, HasTwoDigests}
+use Rattle.pull_generated.specs.Texts.{sha256_text, image_text, payload_type, signatures_text}
+use Rattle.pull_generated.proofs.Layer.{input_of, layer_for, layer_is, spells}
+use Rattle.pull_generated.proofs.ManifestTexts.{describing, signatures_manifest}
+use Rattle.pull_generated.proofs.ShelfContents.{image_on, has_signatures, payload_blobs, payload_there, tagged, signatures_tagged, is_short}
 use Rattle.pull_generated.specs.Terms.{generated_settings, generated_reference, generated_types, any_layer, generated_trust, meaning_with}
 
 -- ---- the reference and the registry

@@ -1,1 +1,3 @@
+pub mod Shelf
 pub mod Terms
+pub mod Texts

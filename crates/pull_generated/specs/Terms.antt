@@ -25,8 +25,8 @@ use Rattle.cosign_rows.specs.Snapshots.{snapshot}
 use Rattle.cosign_rows.specs.Refusal.{is_memory}
 use Rattle.cosign_rows.specs.Verified.{Whole, verified}
 use Rattle.cosign_rows.specs.declared.refusal.PullRefusal.{PullRefusal}
-use Rattle.generated_image.specs.Shelf.{payload_of}
-use Rattle.generated_image.specs.Texts.{sha256_text, layer_type}
+use Rattle.pull_generated.specs.Shelf.{payload_of}
+use Rattle.pull_generated.specs.Texts.{sha256_text, layer_type}
 
 -- ---- the client and its arguments
 

@@ -7,9 +7,9 @@ ghost use Rattle.cosign_chain.specs.Links.{Links};
 ghost use Rattle.registry_calls.specs.Error.{FaultCounted, NoSinkFault};
 ghost use Rattle.cosign_rows.specs.Refusal.{client_refusal};
 ghost use Rattle.cosign_rows.specs.Skips.{CountsFaults, HoldsNoMemoryNorSink, OnSkipped};
-ghost use Rattle.cosign_shelves.specs.Shelves.{AnswersFrom, OkOrMemory};
+ghost use Rattle.cosign_laws.specs.Shelves.{AnswersFrom, OkOrMemory};
 ghost use Rattle.cosign_rows.specs.Sound.{Backed};
-ghost use Rattle.generated_image.specs.Shelf.{generated_shelf, HasTwoDigests};
+ghost use Rattle.pull_generated.specs.Shelf.{generated_shelf, HasTwoDigests};
 ghost use Rattle.pull_generated.specs.Terms.{generated_context, fresh, generated_reference};
 ghost use Rattle.pull_generated.specs.Terms.{generated_types, generated_meaning, PullsGenerated, IsCaused, IsConfined, IsCount};
 

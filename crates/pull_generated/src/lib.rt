@@ -1,8 +1,11 @@
-//! The pull of a generated image.
+//! A generated image in a registry in memory, with its signature, and its verified pull.
 #![tactic(auto)]
 
 mod call;
+mod layers;
+mod shelf;
 mod terms;
+mod texts;
 
 pub use call::pull_generated;
-pub use generated_image::generated_shelf;
+pub use shelf::{generated_shelf, payload_digest};

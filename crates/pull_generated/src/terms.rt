@@ -6,10 +6,10 @@ ghost use Rattle.registry_calls.specs.Direct.{reference_in};
 ghost use Rattle.pull_generated.specs.Terms.{generated_settings, fresh, generated_reference};
 ghost use Rattle.pull_generated.specs.Terms.{generated_types, any_layer, signed_row};
 
+use crate::payload_digest;
 use cosign_client::Client;
 use cosign_layers::{AnnotationVerifier, Constraint, PullPolicy};
 use cosign_parts::{SignedRow, TableVerifier};
-use generated_image::payload_digest;
 use json_values::{Annotations, Blob, List, Text, TextMap};
 use oci_engine::{ClientConfig, ClientProtocol};
 use sig_registry::{OciClient, OciReference, RegistryClient};

@@ -14,10 +14,10 @@ use Rattle.serde_json.specs.Data.{Data}
 use Rattle.json_values.specs.JsonText.{json_of}
 use Rattle.oci_digests.specs.Names.{Names, names}
 use Rattle.oci_digests.proofs.Equal.{named}
-use Rattle.oci_descriptors.specs.Promise.{Picks, picks}
-use Rattle.oci_descriptors.specs.declared.descriptor.OciDescriptor.{OciDescriptor}
-use Rattle.oci_descriptors.specs.declared.promise.ResolverPromise.{ResolverPromise}
-use Rattle.oci_descriptors.proofs.ExactPicks.{picked}
+use Rattle.oci_manifests.specs.Promise.{Picks, picks}
+use Rattle.oci_manifests.specs.declared.descriptor.OciDescriptor.{OciDescriptor}
+use Rattle.oci_manifests.specs.declared.promise.ResolverPromise.{ResolverPromise}
+use Rattle.oci_manifests.proofs.ExactPicks.{picked}
 use Rattle.oci_manifests.specs.Document.{document_of}
 use Rattle.oci_manifests.specs.Versioned.{is_versioned}
 use Rattle.oci_manifests.specs.declared.document.OciManifest.{OciManifest}

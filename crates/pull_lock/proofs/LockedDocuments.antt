@@ -3,12 +3,12 @@ use Rattle.std.proofs.Common.{◌≡◌, ◌⊎◌, inl, inr, ◌<◌, ℕ, true
 use Rattle.std.specs.List.{All}
 use Rattle.oci_names.specs.declared.reference.Reference.{Reference}
 use Rattle.oci_names.specs.Reference.{reads_back, whole_text}
-use Rattle.oci_descriptors.specs.declared.promise.ResolverPromise.{ResolverPromise}
+use Rattle.oci_manifests.specs.declared.promise.ResolverPromise.{ResolverPromise}
 use Rattle.cosign_layers.specs.Satisfying.{PolicyContext}
 use Rattle.cosign_chain.specs.Chain.{FirstIsManifest as ImageFirst, FirstIsIndex as ImageIndexed, LeadsToManifest as ImageLeads}
 use Rattle.cosign_chain.specs.declared.image.VerifiedImage.{VerifiedImage}
-use Rattle.cosign_documents.specs.Documents.{FirstIsManifest, FirstIsIndex, LeadsToManifest, Documents}
-use Rattle.cosign_documents.specs.declared.documents.VerifiedDocuments.{VerifiedDocuments}
+use Rattle.cosign_chain.specs.VerifiedDocuments.{FirstIsManifest, FirstIsIndex, LeadsToManifest, Documents}
+use Rattle.cosign_chain.specs.declared.verified_documents.VerifiedDocuments.{VerifiedDocuments}
 use Rattle.pull_lock.specs.Locked.{Locked}
 use Rattle.pull_lock.specs.LockedDocuments.{documents_entry}
 

@@ -5,7 +5,7 @@ use Rattle.std.specs.Str.{is_utf8}
 use Rattle.oci_names.specs.declared.reference.Reference.{Reference}
 use Rattle.oci_names.specs.Reference.{whole_text, reads_back, digest_of}
 use Rattle.oci_digests.specs.Names.{Names}
-use Rattle.oci_descriptors.specs.declared.promise.ResolverPromise.{ResolverPromise}
+use Rattle.oci_manifests.specs.declared.promise.ResolverPromise.{ResolverPromise}
 use Rattle.cosign_parts.specs.declared.layer.SignatureLayer.{SignatureLayer}
 use Rattle.cosign_layers.specs.Satisfying.{PolicyContext, CustomVerdict, StandsFor, policy_context}
 use Rattle.cosign_layers.specs.declared.policy.PullPolicy.{PullPolicy}

@@ -2,12 +2,12 @@
 use Rattle.std.specs.Prelude.{◌≡◌, ◌<◌, ℕ, Bool, true, List, All, Contains, length, Option}
 use Rattle.oci_names.specs.declared.reference.Reference.{Reference}
 use Rattle.oci_names.specs.Reference.{whole_text, reads_back}
-use Rattle.oci_descriptors.specs.declared.promise.ResolverPromise.{ResolverPromise}
+use Rattle.oci_manifests.specs.declared.promise.ResolverPromise.{ResolverPromise}
 use Rattle.cosign_layers.specs.Satisfying.{CustomVerdict, policy_context}
 use Rattle.cosign_layers.specs.declared.policy.PullPolicy.{PullPolicy}
 use Rattle.cosign_parts.specs.Trust.{Trust}
-use Rattle.cosign_documents.specs.Documents.{Documents}
-use Rattle.cosign_documents.specs.declared.documents.VerifiedDocuments.{VerifiedDocuments}
+use Rattle.cosign_chain.specs.VerifiedDocuments.{Documents}
+use Rattle.cosign_chain.specs.declared.verified_documents.VerifiedDocuments.{VerifiedDocuments}
 use Rattle.pull_lock.specs.Locked.{Locked, all_text, locked_signature}
 use Rattle.pull_lock.specs.declared.lock.LockEntry.{LockEntry}
 

@@ -11,7 +11,7 @@ use crate::stands::is_signed;
 use cosign_layers::PullPolicy;
 use cosign_parts::{LogKeys, Offline, SignatureVerifier};
 use json_values::{Copied, Text};
-use oci_descriptors::ResolverPromise;
+use oci_manifests::ResolverPromise;
 use std::alloc::{AllocError, Global};
 
 /// Whether the images of a lock are still ones that a policy accepts.

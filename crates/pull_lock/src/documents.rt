@@ -7,9 +7,8 @@ ghost use Rattle.pull_lock.specs.Tests.{are_accepted, is_accepted, is_manifest_w
 use crate::lock::LockEntry;
 use cosign_chain::document_in;
 use json_values::{Blob, Text};
-use oci_descriptors::{OciDescriptor, ResolverPromise};
 use oci_digests::names_digest;
-use oci_manifests::{OciImageIndex, OciImageManifest, OciManifest};
+use oci_manifests::{OciDescriptor, OciImageIndex, OciImageManifest, OciManifest, ResolverPromise};
 use std::alloc::{AllocError, Global};
 
 /// Returns the document that the text is.

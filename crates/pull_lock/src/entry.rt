@@ -7,8 +7,7 @@ ghost use Rattle.pull_lock.specs.LockedDocuments.{are_text, documents_entry, Doc
 
 use crate::error::LockError;
 use crate::lock::{LockEntry, LockedSignature};
-use cosign_chain::VerifiedImage;
-use cosign_documents::VerifiedDocuments;
+use cosign_chain::{VerifiedDocuments, VerifiedImage};
 use cosign_layers::PullPolicy;
 use cosign_parts::SignatureLayer;
 use json_values::{Blob, Copied, List, Text, copy_all, row};

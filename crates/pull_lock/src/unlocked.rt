@@ -9,12 +9,11 @@ use crate::checking::is_locked;
 use crate::documents::document_of;
 use crate::lock::LockEntry;
 use crate::stands::{content_of, read_locked};
-use cosign_documents::VerifiedDocuments;
+use cosign_chain::VerifiedDocuments;
 use cosign_layers::PullPolicy;
 use cosign_parts::{LogKeys, Offline, SignatureLayer, SignatureVerifier};
 use json_values::{Blob, Copied, Text};
-use oci_descriptors::ResolverPromise;
-use oci_manifests::{OciImageManifest, OciManifest};
+use oci_manifests::{OciImageManifest, OciManifest, ResolverPromise};
 use std::alloc::{AllocError, Global};
 
 // The manifest that the text is.

@@ -10,14 +10,15 @@ use Rattle.oci_protocol.specs.Proto.{◌>>=◌}
 use Rattle.oci_protocol.specs.Runs.{Meets, Performs}
 use Rattle.oci_protocol.proofs.Laws.{Meets-refused, Meets-memory, Runs-count}
 use Rattle.oci_transport.specs.Link.{Link}
-use Rattle.engine_listings.specs.Listings.{blob_exists}
+use Rattle.engine_pull.specs.Listings.{blob_exists}
 use Rattle.engine_rows.specs.Rows.{Row}
-use Rattle.engine_rows.proofs.Exits.{and_then, done, stores}
+use Rattle.oci_protocol.proofs.Exits.{and_then, done}
+use Rattle.engine_rows.proofs.Exits.{stores}
 use Rattle.engine_terms.specs.Contexts.{Context}
 use Rattle.engine_terms.specs.Error.{is_memory}
 use Rattle.engine_terms.specs.declared.error.OciDistributionError.{OciDistributionError}
 use Rattle.engine_terms.specs.declared.error.OciDistributionError.TheVariants as refusal
-use Rattle.listing_laws.proofs.ExistenceLaws.{exists_fault}
+use Rattle.call_laws.proofs.ExistenceLaws.{exists_fault}
 use Rattle.pull_mirror.specs.Asked.{AskedUpTo, IsAbout, StoppedAsking, WereThere, missing_of, there_of}
 use Rattle.pull_mirror.specs.Copies.{with_stored}
 use Rattle.pull_mirror.specs.DocumentCopies.{blobs_asked, first_missing, unless_absent}

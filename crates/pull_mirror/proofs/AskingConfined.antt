@@ -11,7 +11,7 @@ use Rattle.oci_transport.specs.declared.message.Exchange.{Exchange}
 use Rattle.oci_transport.specs.declared.message.Method.TheVariants.{Head}
 use Rattle.oci_transport.specs.declared.message.Request.{Request}
 use Rattle.engine_answers.specs.Answers.{is_success, refused_answer}
-use Rattle.engine_listings.specs.Listings.{bare, blob_exists, is_there, there_after, unless_told}
+use Rattle.engine_pull.specs.Listings.{bare, blob_exists, is_there, there_after, unless_told}
 use Rattle.engine_requests.specs.Addresses.{blob_text}
 use Rattle.engine_rows.specs.Confined.{Within}
 use Rattle.engine_rows.specs.Held.{Entry, pulling}
@@ -20,7 +20,7 @@ use Rattle.engine_terms.specs.Contexts.{Context}
 use Rattle.engine_terms.specs.Error.{is_memory}
 use Rattle.engine_terms.specs.declared.error.OciDistributionError.{OciDistributionError}
 use Rattle.engine_terms.specs.declared.error.OciDistributionError.TheVariants as refusal
-use Rattle.listing_laws.proofs.BareRequests.{bare_safe}
+use Rattle.call_laws.proofs.BareRequests.{bare_safe}
 use Rattle.request_laws.proofs.CallConfinement.{call_within}
 use Rattle.request_laws.proofs.HeaderCauses.{Sound}
 use Rattle.request_laws.proofs.KeptTokens.{Keeps, keeps_first, keeps_more, keeps_stored}

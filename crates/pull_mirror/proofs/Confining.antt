@@ -29,7 +29,7 @@ use Rattle.request_laws.proofs.RequestConfinement.{each_more}
 use Rattle.request_laws.proofs.SafeMore.{Safe-map, Safe-more}
 use Rattle.request_laws.proofs.ShownTokens.{Carries, safe_done}
 use Rattle.push_laws.proofs.Confinement.{pushing, Kept, Bound, blob_bound}
-use Rattle.publish_laws.proofs.PublishedBounds.{raw_bound}
+use Rattle.push_laws.proofs.PublishedBounds.{raw_bound}
 use Rattle.pull_mirror.specs.Every.{plain}
 
 -- ---- what a row of pushes leaves, whatever the types of its documents

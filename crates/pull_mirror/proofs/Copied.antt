@@ -17,7 +17,7 @@ use Rattle.engine_rows.specs.Confined.{Within}
 use Rattle.engine_rows.specs.Rows.{store}
 use Rattle.push_laws.proofs.CallCauses.{blob_fault}
 use Rattle.push_laws.proofs.Confinement.{pushing}
-use Rattle.publish_laws.proofs.PublishedCalls.{raw_fault}
+use Rattle.push_laws.proofs.PublishedCalls.{raw_fault}
 use Rattle.push_rows.specs.Images.{push_manifest_raw}
 use Rattle.cosign_chain.specs.declared.image.VerifiedImage.{VerifiedImage}
 use Rattle.pull_mirror.specs.Copies.{push_row, all_pushed, image_copied, mirrored_row}

@@ -16,7 +16,8 @@ use Rattle.engine_terms.specs.declared.error.OciDistributionError.{OciDistributi
 use Rattle.engine_terms.specs.declared.error.OciDistributionError.TheVariants as refusal
 use Rattle.engine_rows.specs.Rows.{Row}
 use Rattle.oci_engine.specs.Refusals.{FaultCounted}
-use Rattle.engine_rows.proofs.Exits.{and_then, done, stores}
+use Rattle.oci_protocol.proofs.Exits.{and_then, done}
+use Rattle.engine_rows.proofs.Exits.{stores}
 use Rattle.cosign_chain.specs.declared.image.VerifiedImage.{VerifiedImage}
 use Rattle.pull_mirror.specs.Copies.{push_row, all_pushed, image_copied, mirrored_row, with_stored}
 use Rattle.pull_mirror.specs.Errors.{IsRefusalOf, IfRefused, as_answered, error_of, url_answered}

@@ -1,10 +1,10 @@
--- Digests that are asked for once.
+-- Digests that are requested once.
 use Rattle.std.proofs.Common.{◌≡◌, ◌||◌, ◌<◌, ◌+◌, ℕ, Bool, true, false, List, [], ◌∷◌, ◌++◌, length, take, get_or, Option, is_some, bytes_eq, refl, sym, ap, subst, ◌∙◌, append_assoc, append-nil}
 use Rattle.std.specs.FinMap.{FinMap, insert, get, contains_key, empty, get-insert, get-empty}
 use Rattle.std.specs.Ordering.{eq_by_cmp}
 use Rattle.std.specs.Cmp.Lexicographic.{texts_ties, nat_list_cmp_total}
 use Rattle.json_values.specs.Places.{by_bytes}
-use Rattle.oci_descriptors.specs.declared.descriptor.OciDescriptor.{OciDescriptor}
+use Rattle.oci_manifests.specs.declared.descriptor.OciDescriptor.{OciDescriptor}
 use Rattle.pull_mirror.specs.DocumentPlans.{AddsDigest, AreAsked}
 use Rattle.pull_mirror.specs.DocumentPushes.{layer_digests, not_named_before, unless_named}
 use Rattle.pull_mirror.specs.Pushes.{is_among}
@@ -25,7 +25,7 @@ one_more before (e ∷ ds) d =
 pub asked_none : (a : AskedBlobs) → a.digests ≡ [] → a.seen ≡ empty → AreAsked [] a
 asked_none a none unseen = record { asked = none; seen = λ digest. ap (λ s. contains_key s digest) unseen ∙ ap is_some (get-empty by_bytes digest) }
 
--- a digest that is asked for already
+-- a digest that is requested already
 pub adds_none : (digest : List ℕ) (a : AskedBlobs) → contains_key a.seen digest ≡ true → AddsDigest digest a a
 adds_none digest a there digests h =
     let before : is_among digest digests ≡ true = sym (h.seen digest) ∙ there in

@@ -13,7 +13,7 @@ use Rattle.oci_protocol.specs.Runs.{Meets, Performs, Told}
 use Rattle.oci_protocol.proofs.Conversations.{Extends-more, Extends-none}
 use Rattle.oci_protocol.proofs.Laws.{Meets-refused, Meets-memory, Runs-count}
 use Rattle.oci_transport.specs.Link.{Link}
-use Rattle.engine_rows.proofs.Exits.{and_then, done}
+use Rattle.oci_protocol.proofs.Exits.{and_then, done}
 use Rattle.engine_rows.specs.Confined.{Within}
 use Rattle.engine_rows.specs.Held.{asking, pulling}
 use Rattle.engine_rows.specs.Rows.{Row}
@@ -24,7 +24,7 @@ use Rattle.engine_terms.specs.declared.error.OciDistributionError.TheVariants as
 use Rattle.engine_terms.specs.declared.settings.Settings.{Settings}
 use Rattle.oci_engine.specs.Refusals.{FaultCounted}
 use Rattle.push_laws.proofs.Confinement.{pushing}
-use Rattle.cosign_documents.specs.declared.documents.VerifiedDocuments.{VerifiedDocuments}
+use Rattle.cosign_chain.specs.declared.verified_documents.VerifiedDocuments.{VerifiedDocuments}
 use Rattle.pull_mirror.specs.Asked.{AskedUpTo, CopyWithin, StoppedAsking, StoppedCopy, StoppedPushing, missing_of, of_push, outcome_of}
 use Rattle.pull_mirror.specs.Copies.{all_pushed, push_row}
 use Rattle.pull_mirror.specs.DocumentCopies.{CopyOutcome, Absent, PushedAt, blobs_asked, first_missing, parts_copied, parts_pushed, unless_missing}

@@ -9,7 +9,8 @@ use Rattle.oci_names.specs.declared.reference.Reference.{Reference}
 use Rattle.oci_protocol.specs.Runs.{Meets, Told}
 use Rattle.oci_protocol.proofs.Laws.{Meets-memory}
 use Rattle.oci_transport.specs.Link.{Link}
-use Rattle.engine_rows.proofs.Exits.{and_then, stores}
+use Rattle.oci_protocol.proofs.Exits.{and_then}
+use Rattle.engine_rows.proofs.Exits.{stores}
 use Rattle.engine_rows.specs.Confined.{Within}
 use Rattle.engine_rows.specs.Rows.{Row, store}
 use Rattle.engine_terms.specs.Contexts.{Context}

@@ -2,7 +2,7 @@
 use Rattle.std.proofs.Common.{◌≡◌, ◌<◌, ℕ, true, false, List, [], ◌∷◌, ◌++◌, length, map, Option, Some, None, refl, sym, ap, subst, ◌∙◌, append_assoc, append-nil, arith}
 use Rattle.std.specs.FinMap.{FinMap, empty, insert, contains_key}
 use Rattle.json_values.specs.Places.{by_bytes}
-use Rattle.oci_descriptors.specs.declared.descriptor.OciDescriptor.{OciDescriptor}
+use Rattle.oci_manifests.specs.declared.descriptor.OciDescriptor.{OciDescriptor}
 use Rattle.oci_manifests.specs.declared.blob.ImageLayer.{ImageLayer}
 use Rattle.pull_mirror.specs.Plans.{push_of, pushes_of, Holds, AddsBlob}
 use Rattle.pull_mirror.specs.Pushes.{Push, Blob, push_digest, layer_blobs, without_repeats, digests_of}

@@ -11,7 +11,7 @@ use Rattle.engine_terms.specs.Contexts.{Context}
 use Rattle.engine_terms.specs.Error.{is_memory}
 use Rattle.engine_terms.specs.declared.error.OciDistributionError.{OciDistributionError}
 use Rattle.engine_terms.specs.declared.error.OciDistributionError.TheVariants as refusal
-use Rattle.engine_rows.proofs.Exits.{and_then, done}
+use Rattle.oci_protocol.proofs.Exits.{and_then, done}
 use Rattle.pull_mirror.specs.Copies.{push_row, all_pushed}
 use Rattle.pull_mirror.specs.Pushes.{Push, push_digest, digests_of}
 use Rattle.pull_mirror.specs.Stopped.{Stopped}

@@ -1,7 +1,7 @@
 -- The documents of a chain have their own content types.
 use Rattle.std.proofs.Common.{◌≡◌, inl, inr, ℕ, Bool, true, List, Option, Some, None, option_map, unwrap_or, option_and_then, sym, ap, subst, ◌∙◌}
 use Rattle.json_values.specs.JsonText.{json_of}
-use Rattle.oci_descriptors.specs.declared.promise.ResolverPromise.{ResolverPromise}
+use Rattle.oci_manifests.specs.declared.promise.ResolverPromise.{ResolverPromise}
 use Rattle.oci_manifests.specs.Document.{content_type_of, document_of}
 use Rattle.oci_manifests.specs.Versioned.{is_versioned}
 use Rattle.oci_manifests.specs.declared.document.OciManifest.{OciManifest}

@@ -7,7 +7,7 @@ use Rattle.oci_names.specs.declared.reference.Reference.{Reference}
 use Rattle.oci_protocol.specs.Runs.{Meets, Performs}
 use Rattle.oci_transport.specs.Link.{Link}
 use Rattle.oci_transport.specs.declared.message.Exchange.{Exchange}
-use Rattle.engine_listings.specs.Listings.{blob_exists}
+use Rattle.engine_pull.specs.Listings.{blob_exists}
 use Rattle.engine_rows.specs.Confined.{Within}
 use Rattle.engine_rows.specs.Held.{asking, pulling}
 use Rattle.engine_terms.specs.Contexts.{Context}
@@ -60,7 +60,7 @@ IsAbout text WantOfMemory = Unit {0}
 
 -- ---- how far
 
--- Of the questions about these blobs, those before one were each answered that the blob is there; then the one about
+-- Of the questions about these blobs, those before one were each answered that the target has it; then the one about
 -- the blob of this digest had this result. Each ran completely, from the client and the transport as those before it
 -- left them.
 pub record AskedUpTo (s : Context) (target : Reference) (digests : List (List ℕ)) (old new : Link) (k l : AuthState)
@@ -81,7 +81,7 @@ StoppedAsking s target digests old new k l (Refused digest error) =
     AskedUpTo s target digests old new k l digest (Err error) × (is_memory error ≡ false)
 StoppedAsking s target digests old new k l WantOfMemory = Unit {0}
 
--- each blob is there, and then a push was refused
+-- the target has each blob, and then a push was refused
 pub record StoppedPushing (s : Context) (target : Reference) (digests : List (List ℕ)) (pushes : List Push)
     (old new : Link) (k l : AuthState) (digest : List ℕ) (e : OciDistributionError) : Type 0 where
   pub mid : Link
@@ -101,7 +101,7 @@ StoppedCopy s target digests pushes old new k l WantOfMemory = Unit {0}
 
 -- ---- between steps
 
--- these blobs are there: whatever the questions after them then do, all of them did
+-- the target has these blobs: whatever the questions after them then do, all of them did
 pub record WereThere (s : Context) (target : Reference) (digests : List (List ℕ)) (old mid : Link) (k j : AuthState)
     : Type 0 where
   pub met : (rest : List (List ℕ)) (new : Link) (l : AuthState) (r : Result (Option (List ℕ)) OciDistributionError)

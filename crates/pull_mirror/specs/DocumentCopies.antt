@@ -1,12 +1,12 @@
--- The row of a copy of documents: the target is asked for each blob of the manifest, and then the documents are pushed.
+-- The row of a copy of documents: the target is asked whether it has each blob, and then the documents are pushed.
 use Rattle.std.specs.Prelude.{ℕ, Bool, true, false, List, [], ◌∷◌, Option, Some, None, Result, Ok, Err}
 use Rattle.oci_auth.specs.declared.auth.RegistryAuth.{RegistryAuth}
 use Rattle.oci_names.specs.declared.reference.Reference.{Reference}
 use Rattle.oci_protocol.specs.Proto.{Done, ◌>>=◌, ◌>>◌}
 use Rattle.engine_terms.specs.Contexts.{Context}
 use Rattle.engine_rows.specs.Rows.{Row, store}
-use Rattle.engine_listings.specs.Listings.{blob_exists}
-use Rattle.cosign_documents.specs.declared.documents.VerifiedDocuments.{VerifiedDocuments}
+use Rattle.engine_pull.specs.Listings.{blob_exists}
+use Rattle.cosign_chain.specs.declared.verified_documents.VerifiedDocuments.{VerifiedDocuments}
 use Rattle.pull_mirror.specs.Copies.{all_pushed, push_row}
 use Rattle.pull_mirror.specs.DocumentPushes.{Parts, blobs_named, parts_of}
 

@@ -2,7 +2,7 @@
 use Rattle.std.specs.Prelude.{◌≡◌, ℕ, Bool, List, [], ◌∷◌, ◌++◌}
 use Rattle.std.specs.FinMap.{contains_key}
 use Rattle.oci_names.specs.declared.reference.Reference.{Reference}
-use Rattle.cosign_documents.specs.declared.documents.VerifiedDocuments.{VerifiedDocuments}
+use Rattle.cosign_chain.specs.declared.verified_documents.VerifiedDocuments.{VerifiedDocuments}
 use Rattle.pull_mirror.specs.DocumentPushes.{Parts, blobs_named, not_named_before, parts_of}
 use Rattle.pull_mirror.specs.Every.{Every, IsIn}
 use Rattle.pull_mirror.specs.Plans.{push_of, pushes_of}
@@ -11,7 +11,7 @@ use Rattle.pull_mirror.specs.declared.documents.AskedBlobs.{AskedBlobs}
 use Rattle.pull_mirror.specs.declared.documents.DocumentPlan.{DocumentPlan}
 use Rattle.pull_mirror.specs.declared.documents.PartsPlan.{PartsPlan}
 
--- these digests are asked for, each once, and are remembered
+-- these digests are requested, each once, and are remembered
 pub record AreAsked (digests : List (List ℕ)) (a : AskedBlobs) : Type 0 where
   pub asked : a.digests ≡ not_named_before [] digests
   pub seen : (digest : List ℕ) → contains_key a.seen digest ≡ is_among digest digests

@@ -1,10 +1,10 @@
 -- What is pushed for documents whose blobs the target has, and which blobs these are.
 use Rattle.std.specs.Prelude.{◌≡◌, ℕ, Bool, true, false, List, [], ◌∷◌, ◌++◌, Option, Some, codes}
-use Rattle.oci_descriptors.specs.declared.descriptor.OciDescriptor.{OciDescriptor}
+use Rattle.oci_manifests.specs.declared.descriptor.OciDescriptor.{OciDescriptor}
 use Rattle.oci_digests.specs.Names.{Names}
 use Rattle.oci_manifests.specs.declared.manifest.OciImageManifest.{OciImageManifest}
 use Rattle.oci_names.specs.declared.reference.Reference.{Reference}
-use Rattle.cosign_documents.specs.declared.documents.VerifiedDocuments.{VerifiedDocuments}
+use Rattle.cosign_chain.specs.declared.verified_documents.VerifiedDocuments.{VerifiedDocuments}
 use Rattle.pull_mirror.specs.Pushes.{Push, entry_by, is_among, manifest_push, sha256_blob, signature_push, tag_push}
 use Rattle.pull_mirror.specs.Pushes.{without_repeats}
 use Rattle.pull_mirror.specs.Signatures.{signature_text}

@@ -2,7 +2,7 @@
 -- the OCI image specification, "Image Manifest", with a subject).
 use Rattle.std.specs.Prelude.{◌≡◌, ℕ, List, [], ◌∷◌, length, pos, Option, Some, None, codes, unwrap_or}
 use Rattle.std.specs.Option.{option_map}
-use Rattle.oci_descriptors.specs.declared.descriptor.OciDescriptor.{OciDescriptor}
+use Rattle.oci_manifests.specs.declared.descriptor.OciDescriptor.{OciDescriptor}
 use Rattle.oci_docs.specs.Written.{manifest_text_of}
 use Rattle.oci_manifests.specs.Blob.{typed_config, typed_layer}
 use Rattle.oci_manifests.specs.Build.{built}

@@ -22,7 +22,7 @@ use crate::questions::ask_stored;
 use crate::refusals::{PushRefusal, PushReport};
 use crate::sending::{send_each, send_next};
 use crate::signatures::signature_text;
-use cosign_documents::VerifiedDocuments;
+use cosign_chain::VerifiedDocuments;
 use json_values::List;
 use oci_auth::RegistryAuth;
 use oci_engine::Client;
@@ -84,7 +84,7 @@ fn send_parts<B: Transport>(
     })
 }
 
-// Asks for the blobs, and sends the pushes if each is there.
+// Asks for the blobs, and sends the pushes if the target has each.
 fn send_documents<B: Transport>(
     alloc: Global,
     client: &mut Client,

@@ -8,14 +8,13 @@ ghost use Rattle.pull_mirror.specs.Plans.{pushes_of};
 ghost use Rattle.pull_mirror.specs.Signatures.{signature_text};
 
 use crate::planning::{Planned, add_entry, bytes_pushes, manifest_push, signature_push, tag_push};
-use cosign_documents::VerifiedDocuments;
+use cosign_chain::VerifiedDocuments;
 use json_values::{Blob, Copied, List, Text, TextSet};
-use oci_descriptors::OciDescriptor;
-use oci_manifests::OciImageManifest;
+use oci_manifests::{OciDescriptor, OciImageManifest};
 use oci_names::Reference;
 use std::alloc::{AllocError, Global};
 
-// The digests that are asked for, also as a set.
+// The requested digests, also as a set.
 #[derive(Drop)]
 struct AskedBlobs {
     digests: List<Text>,
@@ -30,7 +29,7 @@ pub(crate) struct PartsPlan<'a> {
     pub after: List<Planned<'a>>,
 }
 
-/// The digests that the target is asked for, and the pushes.
+/// The digests about which the target is asked, and the pushes.
 #[derive(Drop)]
 pub(crate) struct DocumentPlan<'a> {
     pub asked: List<Text>,

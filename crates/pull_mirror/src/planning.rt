@@ -12,9 +12,8 @@ use cosign_chain::VerifiedImage;
 use cosign_parts::LayerKind;
 use cosign_rows::{digest_reference, tag_reference};
 use json_values::{Blob, Copied, List, Text, TextSet};
-use oci_descriptors::{OCI_IMAGE_MEDIA_TYPE, OciDescriptor};
 use oci_digests::sha256_digest;
-use oci_manifests::ImageLayer;
+use oci_manifests::{ImageLayer, OCI_IMAGE_MEDIA_TYPE, OciDescriptor};
 use oci_names::Reference;
 use std::alloc::{AllocError, Global};
 

@@ -1,7 +1,7 @@
 // The questions whether a target has the blobs of a manifest.
 ghost use Rattle.std.specs.Prelude.{◌≡◌, IfErr, None, Ok, OnOk, Some};
 ghost use Rattle.oci_protocol.specs.Runs.{Meets, Performs, Told};
-ghost use Rattle.engine_listings.specs.Listings.{blob_exists};
+ghost use Rattle.engine_pull.specs.Listings.{blob_exists};
 ghost use Rattle.engine_rows.specs.Confined.{Within};
 ghost use Rattle.engine_rows.specs.Held.{pulling};
 ghost use Rattle.engine_terms.specs.Error.{is_memory};

@@ -7,10 +7,9 @@ ghost use Rattle.cosign_parts.specs.declared.layer.LayerKind.TheVariants.{Bundle
 use cosign_chain::document_in;
 use cosign_parts::{BUNDLE_TYPE, LayerKind, SIMPLE_SIGNING_TYPE, SignatureLayer};
 use json_values::{Blob, Copied, List, Text};
-use oci_descriptors::{OCI_IMAGE_MEDIA_TYPE, OciDescriptor};
 use oci_docs::{OciManifest, manifest_text};
 use oci_manifests::blob::Config;
-use oci_manifests::{ImageLayer, OciImageManifest};
+use oci_manifests::{ImageLayer, OCI_IMAGE_MEDIA_TYPE, OciDescriptor, OciImageManifest};
 use std::alloc::{AllocError, Global};
 
 /// The content type of the document that these bytes parse as, or OCI's of a manifest if they are none.

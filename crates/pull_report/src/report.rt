@@ -7,7 +7,7 @@ use cosign_chain::VerifiedImage;
 use cosign_parts::SignatureLayer;
 use cosign_rows::{PullRefusal, Skipped};
 use json_values::{Blob, write_decimal};
-use oci_descriptors::OciDescriptor;
+use oci_manifests::OciDescriptor;
 use oci_transport::Exchange;
 use std::alloc::{AllocError, Global};
 

@@ -5,7 +5,7 @@ use Rattle.oci_transport.specs.declared.message.Exchange.{Exchange}
 use Rattle.oci_link.specs.State.{answering}
 use Rattle.cosign_chain.specs.declared.image.VerifiedImage.{VerifiedImage}
 use Rattle.cosign_rows.specs.declared.refusal.PullRefusal.{PullRefusal}
-use Rattle.generated_image.specs.Shelf.{generated_shelf}
+use Rattle.pull_generated.specs.Shelf.{generated_shelf}
 use Rattle.pull_generated.specs.Terms.{PullsGenerated}
 use Rattle.pull_run.specs.Generated.{generated_lines, WritesGenerated, Generated}
 use Rattle.pulled_cases.specs.declared.report.Report.{Report}

@@ -2,6 +2,9 @@ pub mod CaseStatuses
 pub mod Commands
 pub mod GeneratedReports
 pub mod Inputs
+pub mod Opened
+pub mod Over
+pub mod Ready
 pub mod ShelfPulls
 pub mod Statuses
 pub mod Verdicts

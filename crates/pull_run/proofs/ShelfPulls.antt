@@ -16,7 +16,7 @@ use Rattle.shelf_laws.specs.EvaluatesWith.{OrMemory}
 use Rattle.cosign_chain.specs.declared.image.VerifiedImage.{VerifiedImage}
 use Rattle.cosign_rows.specs.Refusal.{is_memory}
 use Rattle.cosign_rows.specs.Snapshots.{Snapshot, snapshot}
-use Rattle.cosign_shelves.specs.Settled.{IsSettled}
+use Rattle.cosign_laws.specs.Settled.{IsSettled}
 use Rattle.cosign_rows.specs.Verified.{Whole}
 use Rattle.cosign_rows.specs.declared.refusal.PullRefusal.{PullRefusal}
 use Rattle.cosign_laws.proofs.ShelfCalls.{new_settled}

@@ -1,8 +1,8 @@
 -- The verdict on a chain.
 use Rattle.std.proofs.Common.{◌≡◌, ◌↔◌, Bool, true, false, not, refl, subst, sym}
 use Rattle.std.specs.Prelude.{IsTrue}
-use Rattle.recorded_chain.specs.Holds.{Holds}
-use Rattle.recorded_chain.specs.declared.input.ChainInput.{ChainInput}
+use Rattle.locked_cases.specs.Holds.{Holds}
+use Rattle.locked_cases.specs.declared.chain_input.ChainInput.{ChainInput}
 use Rattle.pull_run.specs.Check.{PrintsVerdict, verdict}
 use Rattle.pulled_cases.specs.declared.report.Report.{Report}
 

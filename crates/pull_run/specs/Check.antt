@@ -1,7 +1,7 @@
 -- The output line of `check`.
 use Rattle.std.specs.Prelude.{◌≡◌, ◌↔◌, ℕ, Bool, true, false, List, [], ◌∷◌, ◌++◌, codes}
-use Rattle.recorded_chain.specs.Holds.{Holds}
-use Rattle.recorded_chain.specs.declared.input.ChainInput.{ChainInput}
+use Rattle.locked_cases.specs.Holds.{Holds}
+use Rattle.locked_cases.specs.declared.chain_input.ChainInput.{ChainInput}
 use Rattle.pulled_cases.specs.declared.report.Report.{Report}
 
 -- the line, by whether a chain is refused

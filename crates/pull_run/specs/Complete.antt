@@ -6,7 +6,7 @@ use Rattle.byte_streams.specs.Source.{SourceState}
 use Rattle.oci_link.specs.declared.shelf.Shelf.{Shelf}
 use Rattle.oci_names.specs.Reference.{reference_of}
 use Rattle.oci_names.specs.declared.reference.Reference.{Reference}
-use Rattle.cosign_shelves.specs.Shelves.{WideShelf}
+use Rattle.cosign_laws.specs.Shelves.{WideShelf}
 use Rattle.recorded_case.specs.Case.{case_in}
 use Rattle.recorded_case.specs.Policy.{meaning_of}
 use Rattle.recorded_case.specs.declared.case.Case.{Case}

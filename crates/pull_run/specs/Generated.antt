@@ -8,7 +8,7 @@ use Rattle.oci_link.specs.State.{answering}
 use Rattle.byte_streams.specs.Source.{SourceState}
 use Rattle.cosign_chain.specs.declared.image.VerifiedImage.{VerifiedImage}
 use Rattle.cosign_rows.specs.declared.refusal.PullRefusal.{PullRefusal}
-use Rattle.generated_image.specs.Shelf.{generated_shelf}
+use Rattle.pull_generated.specs.Shelf.{generated_shelf}
 use Rattle.pull_generated.specs.Terms.{PullsGenerated}
 use Rattle.pull_report.specs.Words.{line}
 use Rattle.pulled_cases.specs.declared.report.Report.{Report}

@@ -4,8 +4,14 @@ pub mod Command
 pub mod Complete
 pub mod Generated
 pub mod Input
+pub mod Lines
+pub mod MirrorInput
+pub mod Mirrors
 pub mod Output
 pub mod Program
+pub mod Replayed
+pub mod Reports
 pub mod Status
+pub mod Targets
 pub mod Task
 pub mod Word

@@ -2,14 +2,14 @@
 use Rattle.std.specs.Prelude.{ℕ, List, Option}
 use Rattle.json_values.specs.JsonText.{json_of}
 use Rattle.recorded_case.specs.Case.{case_in}
-use Rattle.recorded_chain.specs.Input.{chain_input_in}
+use Rattle.locked_cases.specs.ChainInput.{chain_input_in}
 use Rattle.locked_cases.specs.Checks.{ChecksLock}
 use Rattle.locked_cases.specs.Input.{cases_in, check_in}
 use Rattle.locked_cases.specs.Locks.{LocksCases}
-use Rattle.mirrored_cases.specs.Input.{mirror_input_in}
-use Rattle.mirrored_cases.specs.Reports.{ReportsMirror}
-use Rattle.reviewed_cases.specs.Input.{review_input_in}
-use Rattle.reviewed_cases.specs.Responses.{ReportsReview}
+use Rattle.pull_run.specs.MirrorInput.{mirror_input_in}
+use Rattle.pull_run.specs.Reports.{ReportsMirror}
+use Rattle.pull_admit.specs.Input.{review_input_in}
+use Rattle.pull_admit.specs.ReviewResponses.{ReportsReview}
 use Rattle.pull_run.specs.Canon.{PrintsValue}
 use Rattle.pull_run.specs.Check.{PrintsVerdict}
 use Rattle.pulled_cases.specs.Pulls.{ReportsCase}

@@ -1,14 +1,14 @@
 // The subcommand `check`: whether a recorded chain holds.
 ghost use Rattle.std.specs.Prelude.{◌≡◌, IfOk, IfSome};
 ghost use Rattle.recorded_case.specs.Case.{IsReady};
-ghost use Rattle.recorded_chain.specs.Input.{chain_input_in};
+ghost use Rattle.locked_cases.specs.ChainInput.{chain_input_in};
 ghost use Rattle.pull_run.specs.Check.{PrintsVerdict, verdict};
 
 use crate::task::Task;
-use json_members::may_have_only;
+use json_tables::may_have_only;
 use json_values::Blob;
+use locked_cases::{ChainInput, chain_holds, read_chain_input};
 use pulled_cases::Report;
-use recorded_chain::{ChainInput, chain_holds, read_chain_input};
 use std::alloc::{AllocError, Global};
 
 // The members of the input.

@@ -1,6 +1,6 @@
 // The pull of the generated image over its shelf.
 ghost use Rattle.std.specs.Prelude.{◌≡◌, IfOk};
-ghost use Rattle.cosign_shelves.specs.Shelves.{OkOrMemory};
+ghost use Rattle.cosign_laws.specs.Shelves.{OkOrMemory};
 ghost use Rattle.byte_streams.specs.Source.{SourceState};
 ghost use Rattle.pull_generated.specs.Terms.{IsCount};
 ghost use Rattle.pull_run.specs.Generated.{generated_lines, WritesGenerated, Generated, GeneratedStatusMeans};

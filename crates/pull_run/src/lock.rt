@@ -6,7 +6,7 @@ ghost use Rattle.locked_cases.specs.Input.{cases_in, check_in, AreReady};
 ghost use Rattle.locked_cases.specs.Locks.{LocksCases};
 
 use crate::task::Task;
-use json_members::may_have_only;
+use json_tables::may_have_only;
 use locked_cases::{
     CheckInput, LockInput, check_input, lock_cases, read_check_input, read_lock_input,
 };

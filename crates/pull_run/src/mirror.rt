@@ -1,11 +1,11 @@
 // The subcommand `mirror`: an image that is pulled from one registry and pushed to another.
 ghost use Rattle.std.specs.Prelude.{◌≡◌, IfOk, IfSome};
-ghost use Rattle.mirrored_cases.specs.Input.{IsForMirror, mirror_input_in};
-ghost use Rattle.mirrored_cases.specs.Reports.{ReportsMirror};
+ghost use Rattle.pull_run.specs.MirrorInput.{IsForMirror, mirror_input_in};
+ghost use Rattle.pull_run.specs.Reports.{ReportsMirror};
 
 use crate::task::Task;
-use json_members::may_have_only;
-use mirrored_cases::{MirrorInput, mirror_case, read_mirror_input};
+use crate::{MirrorInput, mirror_case, read_mirror_input};
+use json_tables::may_have_only;
 use pulled_cases::Report;
 use std::alloc::{AllocError, Global};
 

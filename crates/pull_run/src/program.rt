@@ -5,6 +5,7 @@ ghost use Rattle.pull_run.specs.Program.{TaskStatusMeans, CommandStatusMeans, St
 ghost use Rattle.pull_run.specs.Task.{task_by, task_of};
 ghost use Rattle.pull_run.specs.Command.{command_of, CountsWell};
 
+use crate::MirrorInput;
 use crate::command::{Command, command_of};
 use crate::generated::serve_generated;
 use crate::input::read_input;
@@ -14,11 +15,9 @@ use crate::task::Task;
 use crate::word::Word;
 use byte_streams::{Sink, Source};
 use json_values::{Json, Text};
-use locked_cases::{CheckInput, LockInput};
-use mirrored_cases::MirrorInput;
+use locked_cases::{ChainInput, CheckInput, LockInput};
+use pull_admit::ReviewInput;
 use recorded_case::Case;
-use recorded_chain::ChainInput;
-use reviewed_cases::ReviewInput;
 use std::alloc::Global;
 
 // Reads the input, computes the task's output, and writes it.

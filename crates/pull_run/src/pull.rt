@@ -4,7 +4,7 @@ ghost use Rattle.recorded_case.specs.Case.{case_in, IsReady};
 ghost use Rattle.pulled_cases.specs.Pulls.{ReportsCase};
 
 use crate::task::Task;
-use json_members::may_have_only;
+use json_tables::may_have_only;
 use pulled_cases::{Report, pull_case};
 use recorded_case::{Case, read_case};
 use std::alloc::{AllocError, Global};

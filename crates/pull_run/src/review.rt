@@ -1,12 +1,12 @@
 // The subcommand `review`: the response to an admission review.
 ghost use Rattle.std.specs.Prelude.{◌≡◌, IfOk, IfSome};
-ghost use Rattle.reviewed_cases.specs.Input.{IsForReview, review_input_in};
-ghost use Rattle.reviewed_cases.specs.Responses.{ReportsReview};
+ghost use Rattle.pull_admit.specs.Input.{IsForReview, review_input_in};
+ghost use Rattle.pull_admit.specs.ReviewResponses.{ReportsReview};
 
 use crate::task::Task;
-use json_members::may_have_only;
+use json_tables::may_have_only;
+use pull_admit::{ReviewInput, read_review_input, review_case};
 use pulled_cases::Report;
-use reviewed_cases::{ReviewInput, read_review_input, review_case};
 use std::alloc::{AllocError, Global};
 
 // The members of the input.

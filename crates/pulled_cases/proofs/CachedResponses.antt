@@ -9,8 +9,8 @@ use Rattle.cosign_chain.specs.declared.image.VerifiedImage.{VerifiedImage}
 use Rattle.cosign_client.specs.Clients.{fresh}
 use Rattle.cosign_rows.specs.Snapshots.{Snapshot, snapshot}
 use Rattle.cosign_rows.specs.Verified.{Whole}
-use Rattle.cache_laws.specs.Growth.{IsMadeIn, ExtendsLog, PreservesLog}
-use Rattle.cache_laws.proofs.Pulls.{pull_grows}
+use Rattle.cosign_client.specs.Growth.{IsMadeIn, ExtendsLog, PreservesLog}
+use Rattle.cosign_client.proofs.Pulls.{pull_grows}
 use Rattle.recorded_case.specs.Policy.{meaning_of}
 use Rattle.recorded_case.specs.declared.case.Case.{Case}
 use Rattle.pulled_cases.proofs.PullsInTurn.{Turns}

@@ -1,7 +1,14 @@
 pub mod CallCauses
 pub mod Confinement
+pub mod EarlyPublishes
 pub mod EarlyPushes
+pub mod PublishedBounds
+pub mod PublishedCalls
+pub mod PublishedCauses
 pub mod PushedHeaders
 pub mod PushedValues
 pub mod RequestCauses
+pub mod SentDocuments
+pub mod SentImages
+pub mod SentOrder
 pub mod UploadCauses

@@ -7,7 +7,7 @@ use Rattle.url.specs.Parts.{serialize}
 use Rattle.oci_digests.specs.Names.{digest_text}
 use Rattle.oci_names.specs.declared.algorithm.Algorithm.TheVariants.{Sha256}
 use Rattle.oci_docs.specs.Written.{manifest_text_of}
-use Rattle.oci_descriptors.specs.declared.descriptor.OciDescriptor.{OciDescriptor}
+use Rattle.oci_manifests.specs.declared.descriptor.OciDescriptor.{OciDescriptor}
 use Rattle.oci_manifests.specs.Build.{built}
 use Rattle.oci_manifests.specs.Document.{content_type_of}
 use Rattle.oci_manifests.specs.declared.blob.Config.{Config}

@@ -5,8 +5,8 @@ use Rattle.serde_json.specs.Data.{Data, string}
 use Rattle.json_tables.specs.Reading.{◌>>=◌, text_of}
 use Rattle.json_tables.specs.Objects.{only}
 use Rattle.json_tables.specs.Member.{required}
-use Rattle.oci_descriptors.specs.declared.promise.ResolverPromise.{ResolverPromise}
-use Rattle.oci_descriptors.specs.declared.promise.ResolverPromise.TheVariants.{FirstMatch, Fixed}
+use Rattle.oci_manifests.specs.declared.promise.ResolverPromise.{ResolverPromise}
+use Rattle.oci_manifests.specs.declared.promise.ResolverPromise.TheVariants.{FirstMatch, Fixed}
 
 -- an operating system and an architecture, before and after the first slash
 abbrev pub platform_named : List ℕ → Option ResolverPromise

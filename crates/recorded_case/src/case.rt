@@ -15,7 +15,7 @@ use engine_terms::ClientProtocol;
 use json_tables::{ReadError, Reads, holds_float, only, read_row};
 use json_values::{Blob, List, Text, row};
 use oci_auth::RegistryAuth;
-use oci_descriptors::PlatformResolver;
+use oci_manifests::PlatformResolver;
 use serde_json::Value;
 use std::alloc::{AllocError, Global};
 

@@ -6,7 +6,7 @@ ghost use Rattle.recorded_case.specs.Platform.{fixed_of, platform_named, platfor
 
 use json_tables::{Member, ReadError, only, required};
 use json_values::Text;
-use oci_descriptors::PlatformResolver;
+use oci_manifests::PlatformResolver;
 use oci_names::{Arch, Os};
 use serde_json::Value;
 use std::alloc::Global;
@@ -20,7 +20,7 @@ pub struct Platform {
 
 impl Model for Platform {
     ghost use Rattle.std.specs.Prelude.{Option};
-    ghost use Rattle.oci_descriptors.specs.declared.promise.ResolverPromise.{ResolverPromise};
+    ghost use Rattle.oci_manifests.specs.declared.promise.ResolverPromise.{ResolverPromise};
 
     ghost Value = { Option ResolverPromise };
 

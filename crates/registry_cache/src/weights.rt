@@ -6,9 +6,11 @@ ghost use Rattle.registry_cache.specs.Weights.{counted, text_weight, optional_we
 use crate::answer::Answer;
 use engine_rows::ImageData;
 use json_values::{Annotations, Blob, List, Text, row};
-use oci_descriptors::{ImageIndexEntry, OciDescriptor, Platform};
 use oci_manifests::blob::Config;
-use oci_manifests::{ImageLayer, OciImageIndex, OciImageManifest, OciManifest};
+use oci_manifests::{
+    ImageIndexEntry, ImageLayer, OciDescriptor, OciImageIndex, OciImageManifest, OciManifest,
+    Platform,
+};
 
 // The weight of a text's or other bytes' container, besides their length.
 const HELD: u128 = 32;

@@ -17,9 +17,10 @@ use crate::error::SigstoreError;
 use engine_rows::ImageData;
 use json_values::{Blob, Text};
 use oci_auth::RegistryAuth;
-use oci_descriptors::{OciDescriptor, PlatformResolver};
 use oci_manifests::blob::Config;
-use oci_manifests::{ImageLayer, OciImageIndex, OciImageManifest, OciManifest};
+use oci_manifests::{
+    ImageLayer, OciDescriptor, OciImageIndex, OciImageManifest, OciManifest, PlatformResolver,
+};
 use oci_names::Reference;
 use oci_transport::Transport;
 use push_rows::PushResponse;

@@ -1,5 +1,5 @@
-//! Tests of the calls that an index leads to, of the references that the search takes, of the keys of cached responses,
-//! and of the responses themselves.
+//! Tests of the calls that an index leads to, of lists and of `blob_exists`, of the references that the search takes,
+//! of the keys of cached responses, and of the responses themselves.
 #![tactic(auto)]
 
 #[cfg(test)]
@@ -7,8 +7,14 @@ mod answers;
 #[cfg(test)]
 mod clients;
 #[cfg(test)]
+mod existence;
+#[cfg(test)]
 mod indexes;
 #[cfg(test)]
 mod keys;
 #[cfg(test)]
+mod lists;
+#[cfg(test)]
 mod references;
+#[cfg(test)]
+mod registry;

@@ -16,7 +16,7 @@ use Rattle.oci_digests.specs.declared.error.DigestError.TheVariants.{Verificatio
 use Rattle.oci_auth.specs.declared.auth.RegistryAuth.{RegistryAuth}
 use Rattle.oci_auth.specs.declared.auth_state.AuthState.{AuthState}
 use Rattle.oci_auth.specs.declared.token_type.RegistryOperation.TheVariants.{Pull}
-use Rattle.oci_descriptors.specs.declared.descriptor.OciDescriptor.{OciDescriptor}
+use Rattle.oci_manifests.specs.declared.descriptor.OciDescriptor.{OciDescriptor}
 use Rattle.oci_manifests.specs.declared.blob.ImageLayer.{ImageLayer}
 use Rattle.oci_protocol.specs.Proto.{Reply, Headed, Answered, Failed, TooLong, SinkFailed, Done, read_within, ◌>>=◌}
 use Rattle.oci_protocol.specs.Runs.{head_part}
@@ -46,7 +46,7 @@ use Rattle.engine_rows.specs.Offers.{offer_reading, offer_reply, offer, tried}
 use Rattle.engine_rows.specs.Pulls.{document, digest_by, manifest_document, pull_manifest_raw, fetch_manifest_digest, pull_manifest, blob_to, held_blob}
 use Rattle.engine_answers.specs.Index.{entry_found, entry_manifest, entry_reference, config_text}
 use Rattle.engine_rows.specs.Manifests.{pull_entry, manifest_by, pull_image_manifest_and_list_digest, pull_image_manifest, pull_manifest_and_config_and_list_digest, pull_manifest_and_config}
-use Rattle.engine_rows.specs.Image.{layers_accepted, layer_of, pull_layers, pull}
+use Rattle.engine_rows.specs.Image.{layers_accepted, layer_of, layers_by, pull_layers, pull}
 use Rattle.oci_manifests.specs.declared.document.OciManifest.{OciManifest}
 use Rattle.oci_manifests.specs.declared.document.OciManifest.TheVariants.{Image, ImageIndex}
 use Rattle.request_laws.proofs.PlainRefusals.{Plain, into_plain, refused_plain, accepted_plain, digest_plain, found_plain, read_document_plain, meant_plain, entry_plain, config_plain, layers_plain}
@@ -205,7 +205,7 @@ blob_sound to s image layer k handed l c keeps =
     tried_sound to x s.settings layer.digest (places_of layer.urls) request l c sent keeps))
 
 layers_sound : (s : Context) (image : Reference) (xs : List OciDescriptor) (layers : List ImageLayer) (k : AuthState) (handed : Option RegistryAuth) (l : AuthState) (c : List Exchange) → Keeps (pulling k s image handed) l c → Sound (pulling k s image handed) s.settings manifest_types l c (pull_layers s image xs layers)
-unfolding pull_layers
+unfolding layers_by
 layers_sound s image [] layers k handed l c keeps = plain_last (pulling k s image handed) s.settings manifest_types (Ok layers) l c tt keeps
 layers_sound s image (x ∷ xs) layers k handed l c keeps = safe_next (pulling k s image handed) s.settings manifest_types (held_blob s image (described x)) _ l c (blob_sound IntoMemory s image (described x) k handed l c keeps) (λ l c content keeps. layers_sound s image xs (layers ++ layer_of x content ∷ []) k handed l c keeps)
 

@@ -19,10 +19,10 @@ use Rattle.engine_answers.specs.Answers.{is_success, is_client_error, envelope_i
 use Rattle.engine_answers.specs.Documents.{plain_of, type_checked, version_checked, versioned_in, or_unread, reads_twice, tables_read, document_read}
 use Rattle.engine_answers.specs.Index.{entry_named, entry_found, entry_manifest, config_text}
 use Rattle.engine_rows.specs.Image.{is_accepted, all_accepted, layers_accepted}
-use Rattle.oci_descriptors.specs.Promise.{lists, resolved}
-use Rattle.oci_descriptors.specs.declared.promise.ResolverPromise.{ResolverPromise}
-use Rattle.oci_descriptors.specs.declared.index_entry.ImageIndexEntry.{ImageIndexEntry}
-use Rattle.oci_descriptors.specs.declared.descriptor.OciDescriptor.{OciDescriptor}
+use Rattle.oci_manifests.specs.Promise.{lists, resolved}
+use Rattle.oci_manifests.specs.declared.promise.ResolverPromise.{ResolverPromise}
+use Rattle.oci_manifests.specs.declared.index_entry.ImageIndexEntry.{ImageIndexEntry}
+use Rattle.oci_manifests.specs.declared.descriptor.OciDescriptor.{OciDescriptor}
 use Rattle.oci_manifests.specs.declared.document.OciManifest.TheVariants.{Image, ImageIndex}
 use Rattle.engine_terms.specs.declared.error.GenericCause.TheVariants.{ConfigNotText, HeaderText}
 use Rattle.json_values.specs.Refusals.{◌>>=◌ as ◌into◌}

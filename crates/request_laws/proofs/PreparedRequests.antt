@@ -25,7 +25,7 @@ use Rattle.oci_auth.specs.Cache.{key_of, token_at}
 use Rattle.oci_auth.specs.Kept.{Key}
 use Rattle.oci_auth.specs.declared.token_type.RegistryOperation.{RegistryOperation}
 use Rattle.oci_auth.specs.declared.token_type.RegistryTokenType.{RegistryTokenType}
-use Rattle.http_challenges.specs.declared.bearer.BearerChallenge.{BearerChallenge}
+use Rattle.oci_auth.specs.declared.bearer.BearerChallenge.{BearerChallenge}
 use Rattle.oci_protocol.specs.Proto.{Reading, read_within, Reply, Headed, Answered, Failed, TooLong, SinkFailed, read_none, Proto, Done, bind, unless_refused, ◌>>=◌}
 use Rattle.oci_protocol.specs.Follow.{Trail}
 use Rattle.oci_protocol.specs.Runs.{Runs, head_part}

@@ -1,1 +1,3 @@
 pub mod Descriptor
+pub mod First
+pub mod Whole

@@ -1,14 +1,18 @@
-//! The program: `run` of `live_words` over standard input and output, and descriptor 3.
+//! What the core does for its host: the first frame of its host, what is done for it, and the program over standard
+//! input and output, and descriptor 3.
 #![tactic(auto)]
 
 mod descriptor;
+mod first;
+mod whole;
 
 use crate::descriptor::Descriptor;
 pub use byte_streams::{StdSink, StdSource};
+pub use first::FirstFrame;
 pub use live_host::Streams;
 pub use live_pull::{Ended, Status};
-pub use live_words::run;
 use std::process::ExitCode;
+pub use whole::run;
 
 // What an exit status other than 0 and 1 means, and what to do.
 fn advice(status: u8) -> &'static str {

@@ -12,7 +12,7 @@ use Rattle.oci_auth.specs.declared.auth_state.AuthState.{AuthState}
 use Rattle.oci_manifests.specs.declared.document.OciManifest.{OciManifest}
 use Rattle.oci_manifests.specs.declared.document.OciManifest.TheVariants.{Image, ImageIndex}
 use Rattle.oci_manifests.specs.declared.manifest.OciImageManifest.{OciImageManifest}
-use Rattle.oci_descriptors.specs.declared.descriptor.OciDescriptor.{OciDescriptor}
+use Rattle.oci_manifests.specs.declared.descriptor.OciDescriptor.{OciDescriptor}
 use Rattle.oci_manifests.specs.declared.blob.ImageLayer.{ImageLayer}
 use Rattle.oci_link.specs.PlainPaths.{Segment}
 use Rattle.oci_link.specs.Table.{answer, digest_named}
@@ -28,7 +28,7 @@ use Rattle.engine_terms.specs.declared.settings.Settings.{Settings}
 use Rattle.engine_rows.specs.declared.image.ImageData.{ImageData}
 use Rattle.engine_rows.specs.Pulls.{pull_manifest, held_blob}
 use Rattle.engine_rows.specs.Manifests.{pull_entry, manifest_by, pull_image_manifest_and_list_digest}
-use Rattle.engine_rows.specs.Image.{is_accepted, all_accepted, layers_accepted, layer_of, config_of, pull_layers, pull}
+use Rattle.engine_rows.specs.Image.{is_accepted, all_accepted, layers_accepted, layer_of, layers_by, config_of, pull_layers, pull}
 use Rattle.shelf_laws.specs.EvaluatesWith.{AlwaysOk}
 use Rattle.shelf_laws.specs.IsHosted.{IsHosted, IsAt, CanBeShown, Settled}
 use Rattle.shelf_laws.specs.Shelves.{FitsLimit, HasDocument, HasBlob, HasLayer, LeadsTo, ImageOn, layer_on, layers_on}
@@ -104,7 +104,7 @@ module _ {s : Settings} {registry : List ℕ} {shelf : Shelf} (home : IsHosted s
   blob_on digest has = ap (λ (o : Option (List ℕ)). unwrap_or o []) (sym has.there)
 
   layers_give : (image : Reference) (accepted : List (List ℕ)) (xs : List OciDescriptor) (before : List ImageLayer) → IsAt registry shelf image → All (HasLayer shelf accepted) xs → AlwaysOk I (answer shelf) (λ layers. layers ≡ before ++ layers_on shelf xs) (pull_layers ctx image xs before)
-  unfolding pull_layers
+  unfolding layers_by
   layers_give image accepted [] before at all = AlwaysOk-done (Ok before) (sym (append-nil before))
   layers_give image accepted (x ∷ xs) before at all =
       let has = (All-head (HasLayer shelf accepted) x xs all).0 in

@@ -22,7 +22,7 @@ use Rattle.oci_manifests.specs.declared.document.OciManifest.{OciManifest}
 use Rattle.oci_manifests.specs.declared.document.OciManifest.TheVariants.{Image, ImageIndex}
 use Rattle.oci_manifests.specs.declared.index.OciImageIndex.{OciImageIndex}
 use Rattle.oci_manifests.specs.declared.manifest.OciImageManifest.{OciImageManifest}
-use Rattle.oci_descriptors.specs.declared.descriptor.OciDescriptor.{OciDescriptor}
+use Rattle.oci_manifests.specs.declared.descriptor.OciDescriptor.{OciDescriptor}
 use Rattle.oci_manifests.specs.declared.blob.ImageLayer.{ImageLayer}
 use Rattle.oci_transport.specs.Headers.{Fields, first_of, values_of, added, has_room, digest_header, is_header_value}
 use Rattle.oci_transport.specs.Urls.{request_url}
@@ -66,7 +66,7 @@ use Rattle.engine_rows.specs.Blobs.{IntoMemory, reading_by, blob_reading, blob_r
 use Rattle.engine_rows.specs.Pulls.{document, digest_by, fetch_manifest_digest, manifest_document, pull_manifest_raw, manifest_asked, pull_manifest, blob_to, held_blob}
 use Rattle.engine_rows.specs.Manifests.{pull_entry, manifest_by, pull_image_manifest_and_list_digest}
 use Rattle.engine_rows.specs.Referrers.{referrers_asked, referrers_tagged, referrers_by, pull_referrers}
-use Rattle.engine_rows.specs.Image.{layers_accepted, layer_of, pull_layers, pull}
+use Rattle.engine_rows.specs.Image.{layers_accepted, layer_of, layers_by, pull_layers, pull}
 use Rattle.engine_rows.specs.declared.image.ImageData.{ImageData}
 use Rattle.shelf_laws.specs.EvaluatesWith.{IsHeld, EvaluatesWith}
 use Rattle.shelf_laws.specs.IsHosted.{IsToken, Settled}
@@ -433,7 +433,7 @@ module _ (s : Settings) (shelf : Shelf) (registry repository : List ℕ) (a : Re
     blob_sure layer = resilient_next _ (sure_done (url_read (blob_text s image layer.digest))) (λ url. resilient_next _ (prepared_sure Get url manifest_types) (λ request. tried_sure layer.digest (places_of layer.urls) request))
 
     layers_sure : (xs : List OciDescriptor) (before : List ImageLayer) → Sure (pull_layers ctx image xs before)
-    unfolding pull_layers
+    unfolding layers_by
     layers_sure [] before = sure_done _
     layers_sure (x ∷ xs) before = resilient_next _ (blob_sure (described x)) (λ content. layers_sure xs (before ++ layer_of x content ∷ []))
 

@@ -1,13 +1,13 @@
 -- ECDSA keys of one curve.
 use Rattle.std.specs.Prelude.{◌≡◌, ℕ, List, Option, option_map}
 use Rattle.std.specs.Option.{option_or}
-use Rattle.key_schemes.specs.KeyPair.{Public}
-use Rattle.key_schemes.specs.Scheme.{kind_of}
+use Rattle.key_parts.specs.KeyPair.{Public}
+use Rattle.key_parts.specs.Scheme.{kind_of}
 use Rattle.sig_keys.specs.declared.ecdsa.ec.EcdsaKeys.{EcdsaKeys}
 use Rattle.sig_keys.specs.declared.ecdsa.ec.EcdsaSigner.{EcdsaSigner}
-use Rattle.key_schemes.specs.declared.scheme.EllipticCurve.{EllipticCurve}
-use Rattle.key_schemes.specs.declared.scheme.EllipticCurve.TheVariants as curves
-use Rattle.key_schemes.specs.declared.scheme.KeyKind.{KeyKind}
+use Rattle.key_parts.specs.declared.scheme.EllipticCurve.{EllipticCurve}
+use Rattle.key_parts.specs.declared.scheme.EllipticCurve.TheVariants as curves
+use Rattle.key_parts.specs.declared.scheme.KeyKind.{KeyKind}
 
 -- the keys, if the bytes are a private key on this curve
 abbrev pub keys_on : Public → List ℕ → EllipticCurve → Option EcdsaKeys

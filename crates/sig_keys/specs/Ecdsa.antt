@@ -1,13 +1,13 @@
 -- ECDSA keys of any curve.
 use Rattle.std.specs.Prelude.{◌≡◌, ℕ, List, Option, option_map}
 use Rattle.sig_keys.specs.Ec.{ecdsa_keys_of, MadeKeys}
-use Rattle.key_schemes.specs.KeyPair.{Public}
+use Rattle.key_parts.specs.KeyPair.{Public}
 use Rattle.sig_keys.specs.declared.ecdsa.ec.EcdsaKeys.{EcdsaKeys}
 use Rattle.sig_keys.specs.declared.ecdsa.ECDSAKeys.{ECDSAKeys as AnyCurveKeys}
 use Rattle.sig_keys.specs.declared.ecdsa.ECDSAKeys.TheVariants as on
-use Rattle.key_schemes.specs.declared.scheme.EllipticCurve.{EllipticCurve}
-use Rattle.key_schemes.specs.declared.scheme.EllipticCurve.TheVariants as curves
-use Rattle.key_schemes.specs.declared.scheme.KeyKind.{KeyKind}
+use Rattle.key_parts.specs.declared.scheme.EllipticCurve.{EllipticCurve}
+use Rattle.key_parts.specs.declared.scheme.EllipticCurve.TheVariants as curves
+use Rattle.key_parts.specs.declared.scheme.KeyKind.{KeyKind}
 
 -- the keys under the variant of a curve
 abbrev pub wrapped_on : EllipticCurve → EcdsaKeys → AnyCurveKeys

@@ -1,10 +1,10 @@
 -- Ed25519 keys.
 use Rattle.std.specs.Prelude.{ℕ, List, Option, option_map}
-use Rattle.key_schemes.specs.KeyPair.{Public}
+use Rattle.key_parts.specs.KeyPair.{Public}
 use Rattle.sig_keys.specs.declared.ed25519.Ed25519Keys.{Ed25519Keys}
 use Rattle.sig_keys.specs.declared.ed25519.Ed25519Signer.{Ed25519Signer}
-use Rattle.key_schemes.specs.declared.scheme.KeyKind.{KeyKind}
-use Rattle.key_schemes.specs.declared.scheme.KeyKind.TheVariants as kind
+use Rattle.key_parts.specs.declared.scheme.KeyKind.{KeyKind}
+use Rattle.key_parts.specs.declared.scheme.KeyKind.TheVariants as kind
 
 -- the keys, if the bytes are an Ed25519 private key
 abbrev pub ed25519_keys_of : Public → List ℕ → Option Ed25519Keys

@@ -4,18 +4,18 @@ use Rattle.std.specs.Option.{option_or}
 use Rattle.sig_keys.specs.Ec.{ecdsa_signer}
 use Rattle.sig_keys.specs.Ecdsa.{inner_of, curve_keys_of}
 use Rattle.sig_keys.specs.Ed25519.{ed25519_keys_of, ed25519_signer}
-use Rattle.key_schemes.specs.KeyPair.{Public}
+use Rattle.key_parts.specs.KeyPair.{Public}
 use Rattle.sig_keys.specs.Rsa.{rsa_keys_of, rsa_signer}
-use Rattle.key_schemes.specs.Scheme.{kind_of, fits, padding_under}
-use Rattle.key_schemes.specs.declared.error.KeyError.{KeyError}
-use Rattle.key_schemes.specs.declared.error.KeyError.TheVariants.{UnmatchedKeyAndSigningScheme}
+use Rattle.key_parts.specs.Scheme.{kind_of, fits, padding_under}
+use Rattle.key_parts.specs.declared.error.KeyError.{KeyError}
+use Rattle.key_parts.specs.declared.error.KeyError.TheVariants.{UnmatchedKeyAndSigningScheme}
 use Rattle.sig_keys.specs.declared.pair.SigStoreKeyPair.{SigStoreKeyPair}
 use Rattle.sig_keys.specs.declared.pair.SigStoreKeyPair.TheVariants.{ECDSA, ED25519, RSA}
-use Rattle.key_schemes.specs.declared.scheme.DigestAlgorithm.TheVariants.{Sha256}
-use Rattle.key_schemes.specs.declared.scheme.KeyKind.{KeyKind}
-use Rattle.key_schemes.specs.declared.scheme.KeyKind.TheVariants as kind
-use Rattle.key_schemes.specs.declared.scheme.SigningScheme.{SigningScheme}
-use Rattle.key_schemes.specs.declared.scheme.SigningScheme.TheVariants as scheme
+use Rattle.key_parts.specs.declared.scheme.DigestAlgorithm.TheVariants.{Sha256}
+use Rattle.key_parts.specs.declared.scheme.KeyKind.{KeyKind}
+use Rattle.key_parts.specs.declared.scheme.KeyKind.TheVariants as kind
+use Rattle.key_parts.specs.declared.scheme.SigningScheme.{SigningScheme}
+use Rattle.key_parts.specs.declared.scheme.SigningScheme.TheVariants as scheme
 use Rattle.sig_keys.specs.declared.store_signer.SigStoreSigner.{SigStoreSigner}
 use Rattle.sig_keys.specs.declared.store_signer.SigStoreSigner.TheVariants as signer
 

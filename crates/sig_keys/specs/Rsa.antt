@@ -1,12 +1,12 @@
 -- RSA keys.
 use Rattle.std.specs.Prelude.{ℕ, List, Option, option_map}
-use Rattle.key_schemes.specs.KeyPair.{Public}
+use Rattle.key_parts.specs.KeyPair.{Public}
 use Rattle.sig_keys.specs.declared.rsa.RSAKeys.{RSAKeys}
 use Rattle.sig_keys.specs.declared.rsa.RSASigner.{RSASigner}
-use Rattle.key_schemes.specs.declared.scheme.DigestAlgorithm.{DigestAlgorithm}
-use Rattle.key_schemes.specs.declared.scheme.KeyKind.{KeyKind}
-use Rattle.key_schemes.specs.declared.scheme.KeyKind.TheVariants as kind
-use Rattle.key_schemes.specs.declared.scheme.PaddingScheme.{PaddingScheme}
+use Rattle.key_parts.specs.declared.scheme.DigestAlgorithm.{DigestAlgorithm}
+use Rattle.key_parts.specs.declared.scheme.KeyKind.{KeyKind}
+use Rattle.key_parts.specs.declared.scheme.KeyKind.TheVariants as kind
+use Rattle.key_parts.specs.declared.scheme.PaddingScheme.{PaddingScheme}
 
 -- the keys, if the bytes are an RSA private key
 abbrev pub rsa_keys_of : Public → List ℕ → Option RSAKeys

@@ -8,7 +8,7 @@ use Rattle.sig_keys.specs.declared.pair.SigStoreKeyPair.{SigStoreKeyPair}
 use Rattle.sig_keys.specs.declared.pair.SigStoreKeyPair.TheVariants as pair
 use Rattle.sig_keys.specs.declared.store_signer.SigStoreSigner.{SigStoreSigner}
 use Rattle.sig_keys.specs.declared.store_signer.SigStoreSigner.TheVariants as signer
-use Rattle.key_schemes.specs.Shown.{curve_name}
+use Rattle.key_parts.specs.Shown.{curve_name}
 
 abbrev pub printed_keys : AnyCurveKeys → List ℕ
 printed_keys keys = codes "ECDSA " ++ curve_name (inner_of keys).curve

@@ -1,11 +1,11 @@
 -- Signers of any kind.
 use Rattle.std.specs.Prelude.{ℕ, List}
 use Rattle.sig_keys.specs.Ecdsa.{wrapped}
-use Rattle.key_schemes.specs.Scheme.{curve_scheme, padding_scheme}
+use Rattle.key_parts.specs.Scheme.{curve_scheme, padding_scheme}
 use Rattle.sig_keys.specs.declared.pair.SigStoreKeyPair.{SigStoreKeyPair}
 use Rattle.sig_keys.specs.declared.pair.SigStoreKeyPair.TheVariants as pair
-use Rattle.key_schemes.specs.declared.scheme.SigningScheme.{SigningScheme}
-use Rattle.key_schemes.specs.declared.scheme.SigningScheme.TheVariants as scheme
+use Rattle.key_parts.specs.declared.scheme.SigningScheme.{SigningScheme}
+use Rattle.key_parts.specs.declared.scheme.SigningScheme.TheVariants as scheme
 use Rattle.sig_keys.specs.declared.store_signer.SigStoreSigner.{SigStoreSigner}
 use Rattle.sig_keys.specs.declared.store_signer.SigStoreSigner.TheVariants.{ECDSA, ED25519, RSA}
 

@@ -2,8 +2,8 @@
 ghost use Rattle.std.specs.Prelude.{◌≡◌, IfOk};
 ghost use Rattle.sig_keys.specs.Ec.{ecdsa_signer};
 ghost use Rattle.sig_keys.specs.Ecdsa.{wrapped, inner_of, curve_keys_of, MadeOnCurve};
-ghost use Rattle.key_schemes.specs.Outcomes.{Makes, Parses};
-ghost use Rattle.key_schemes.specs.Scheme.{kind_of};
+ghost use Rattle.key_parts.specs.Outcomes.{Makes, Parses};
+ghost use Rattle.key_parts.specs.Scheme.{kind_of};
 ghost use Rattle.sig_keys.specs.declared.store_signer.SigStoreSigner.TheVariants.{ECDSA as ecdsa_store_signer};
 
 pub mod ec;
@@ -11,9 +11,7 @@ pub mod ec;
 use crate::store_signer::SigStoreSigner;
 use ec::EcdsaKeys as CurveKeys;
 use json_values::{Blob, Copied};
-use key_schemes::{
-    CosignVerificationKey, EllipticCurve, KeyError, KeyMaker, KeyPair, SigningScheme,
-};
+use key_parts::{CosignVerificationKey, EllipticCurve, KeyError, KeyMaker, KeyPair, SigningScheme};
 use std::alloc::{AllocError, Global};
 use std::fmt;
 

@@ -1,15 +1,15 @@
 //! Ed25519 keys (RFC 8032), and their signer.
 ghost use Rattle.std.specs.Prelude.{◌≡◌, IfOk};
 ghost use Rattle.sig_keys.specs.Ed25519.{ed25519_keys_of, ed25519_signer, MadeEd25519};
-ghost use Rattle.key_schemes.specs.Outcomes.{Makes, Parses};
-ghost use Rattle.key_schemes.specs.declared.scheme.KeyKind.TheVariants as kind;
-ghost use Rattle.key_schemes.specs.declared.scheme.SigningScheme.TheVariants as scheme_of_keys;
+ghost use Rattle.key_parts.specs.Outcomes.{Makes, Parses};
+ghost use Rattle.key_parts.specs.declared.scheme.KeyKind.TheVariants as kind;
+ghost use Rattle.key_parts.specs.declared.scheme.SigningScheme.TheVariants as scheme_of_keys;
 ghost use Rattle.sig_keys.specs.declared.store_signer.SigStoreSigner.TheVariants.{ED25519 as ed25519_store_signer};
 
 use crate::signer::Signer;
 use crate::store_signer::SigStoreSigner;
 use json_values::{Blob, Copied, copied};
-use key_schemes::{CosignVerificationKey, KeyError, KeyKind, KeyMaker, KeyPair, SigningScheme};
+use key_parts::{CosignVerificationKey, KeyError, KeyKind, KeyMaker, KeyPair, SigningScheme};
 use std::alloc::{AllocError, Global};
 use std::fmt;
 

@@ -8,13 +8,11 @@ pub mod rsa;
 mod signer;
 mod store_signer;
 
-pub use key_envelope::{
-    BOX_KEY_SIZE, BOX_NONCE_SIZE, DecryptCause, KdfError, KeyBox, NAME_SCRYPT, NAME_SECRET_BOX,
-    SALT_SIZE, SCRYPT_N_HIGH, SCRYPT_N_LOW, SCRYPT_P, SCRYPT_R, ScryptParams, kdf,
-};
-pub use key_schemes::{
-    CosignVerificationKey, DigestAlgorithm, EllipticCurve, KeyError, KeyKind, KeyMaker, KeyPair,
-    PaddingScheme, SigningScheme,
+pub use key_parts::{
+    BOX_KEY_SIZE, BOX_NONCE_SIZE, CosignVerificationKey, DecryptCause, DigestAlgorithm,
+    EllipticCurve, KdfError, KeyBox, KeyError, KeyKind, KeyMaker, KeyPair, NAME_SCRYPT,
+    NAME_SECRET_BOX, PaddingScheme, SALT_SIZE, SCRYPT_N_HIGH, SCRYPT_N_LOW, SCRYPT_P, SCRYPT_R,
+    ScryptParams, SigningScheme, kdf,
 };
 pub use pair::SigStoreKeyPair;
 pub use signer::Signer;

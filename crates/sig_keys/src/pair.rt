@@ -1,8 +1,8 @@
 //! Keys of any kind.
 ghost use Rattle.std.specs.Prelude.{◌≡◌, IfOk};
 ghost use Rattle.json_values.specs.Refusals.{Matches};
-ghost use Rattle.key_schemes.specs.Outcomes.{Parses};
-ghost use Rattle.key_schemes.specs.Error.{is_memory};
+ghost use Rattle.key_parts.specs.Outcomes.{Parses};
+ghost use Rattle.key_parts.specs.Error.{is_memory};
 ghost use Rattle.sig_keys.specs.Pair.{pair_read, pair_kind, pair_public, pair_private, pair_scheme, signer_under};
 
 use crate::ecdsa::ECDSAKeys;
@@ -11,7 +11,7 @@ use crate::ed25519::Ed25519Keys;
 use crate::rsa::RSAKeys;
 use crate::store_signer::SigStoreSigner;
 use json_values::{Blob, Copied};
-use key_schemes::{
+use key_parts::{
     CosignVerificationKey, DigestAlgorithm, KeyError, KeyKind, KeyMaker, KeyPair, SigningScheme,
 };
 use std::alloc::{AllocError, Global};

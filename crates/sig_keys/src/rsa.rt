@@ -1,16 +1,16 @@
 //! RSA keys (RFC 8017), and their signer.
 ghost use Rattle.std.specs.Prelude.{◌≡◌, IfOk};
-ghost use Rattle.key_schemes.specs.KeyPair.{verification_key};
-ghost use Rattle.key_schemes.specs.Outcomes.{Makes, Parses};
+ghost use Rattle.key_parts.specs.KeyPair.{verification_key};
+ghost use Rattle.key_parts.specs.Outcomes.{Makes, Parses};
 ghost use Rattle.sig_keys.specs.Rsa.{rsa_keys_of, rsa_signer, MadeRsa};
-ghost use Rattle.key_schemes.specs.Scheme.{padding_scheme};
-ghost use Rattle.key_schemes.specs.declared.scheme.KeyKind.TheVariants as kind;
+ghost use Rattle.key_parts.specs.Scheme.{padding_scheme};
+ghost use Rattle.key_parts.specs.declared.scheme.KeyKind.TheVariants as kind;
 ghost use Rattle.sig_keys.specs.declared.store_signer.SigStoreSigner.TheVariants.{RSA as rsa_store_signer};
 
 use crate::signer::Signer;
 use crate::store_signer::SigStoreSigner;
 use json_values::{Blob, Copied, copied};
-use key_schemes::{
+use key_parts::{
     CosignVerificationKey, DigestAlgorithm, KeyError, KeyKind, KeyMaker, KeyPair, PaddingScheme,
     SigningScheme,
 };

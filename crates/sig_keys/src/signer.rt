@@ -1,10 +1,10 @@
 //! Common calls of all signers.
 ghost use Rattle.std.specs.Prelude.{◌≡◌};
-ghost use Rattle.key_schemes.specs.Outcomes.{SignsBy};
-ghost use Rattle.key_schemes.specs.declared.scheme.SigningScheme.{SigningScheme};
+ghost use Rattle.key_parts.specs.Outcomes.{SignsBy};
+ghost use Rattle.key_parts.specs.declared.scheme.SigningScheme.{SigningScheme};
 
 use json_values::Blob;
-use key_schemes::{KeyError, KeyMaker, KeyPair};
+use key_parts::{KeyError, KeyMaker, KeyPair};
 use std::alloc::Global;
 
 /// Signs messages with its keys under its scheme.

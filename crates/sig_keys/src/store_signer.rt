@@ -1,7 +1,7 @@
 //! Signers of any kind.
 ghost use Rattle.std.specs.Prelude.{◌≡◌, IfOk};
-ghost use Rattle.key_schemes.specs.KeyPair.{verification_key};
-ghost use Rattle.key_schemes.specs.Outcomes.{SignsBy};
+ghost use Rattle.key_parts.specs.KeyPair.{verification_key};
+ghost use Rattle.key_parts.specs.Outcomes.{SignsBy};
 ghost use Rattle.sig_keys.specs.StoreSigner.{signer_scheme, signer_private, signer_public, pair_of};
 
 use crate::ecdsa::ec::EcdsaSigner;
@@ -10,7 +10,7 @@ use crate::pair::SigStoreKeyPair;
 use crate::rsa::RSASigner;
 use crate::signer::Signer;
 use json_values::{Blob, Copied};
-use key_schemes::{CosignVerificationKey, KeyError, KeyMaker, KeyPair, SigningScheme};
+use key_parts::{CosignVerificationKey, KeyError, KeyMaker, KeyPair, SigningScheme};
 use std::alloc::{AllocError, Global};
 use std::fmt;
 

@@ -1,8 +1,6 @@
 -- The result of a call whose response may be cached.
 use Rattle.std.proofs.Common.{◌≡◌, ℕ, Bool, true, false, List, Option, Some, None, Result, Ok, Err, refl, sym, ap, subst}
 use Rattle.std.specs.Prelude.{option_map}
-use Rattle.std.specs.Result.{IsErrAnd}
-use Rattle.std.proofs.lemmas.Result.{err_from_is_err_and}
 use Rattle.oci_transport.specs.Link.{Link}
 use Rattle.oci_auth.specs.declared.auth_state.AuthState.{AuthState}
 use Rattle.oci_protocol.specs.Proto.{Done, ◌>>=◌, ◌>>◌}
@@ -20,8 +18,8 @@ use Rattle.registry_calls.specs.Caching.{keeping, known_or, recalled, cached}
 use Rattle.registry_cache.specs.Caching.{Cache, known}
 
 -- memory ran out before anything was done
-pub absent : {A : Type 0} {p : Row A} {link : Link} {k : Kept} {r : Result A SigstoreError} → IsErrAnd r (λ e. e ≡ refusal.WantOfMemory) → Meets is_memory p link link k k r
-absent {p = p} {link = link} {k = k} {r = r} is = let at = err_from_is_err_and r is in rw (at.1, at.2) (Meets-memory is_memory p link k refusal.WantOfMemory refl)
+pub absent : {A : Type 0} {p : Row A} {link : Link} {k : Kept} → Meets is_memory p link link k k (Err refusal.WantOfMemory)
+absent {p = p} {link = link} {k = k} = Meets-memory is_memory p link k refusal.WantOfMemory refl
 
 module _ {A : Type 0} (cache : Cache A) (key : List ℕ) (now : ℕ) (p : Plain A) where
   -- what is cached with this response, if the client caches
@@ -51,10 +49,10 @@ module _ {A : Type 0} (cache : Cache A) (key : List ℕ) (now : ℕ) (p : Plain 
   not_given {x = x} is met = by_known None is (Meets-refused then_kept (Meets-lifted x met))
 
   -- memory ran out while caching the uncached call's response
-  pub cut_after : {old new : Link} {k l : AuthState} {x : Option Answers} (a : A) {r : Result A SigstoreError} → known cache key now x ≡ None
-      → Meets is_memory p old new k l (Ok a) → IsErrAnd r (λ e. e ≡ refusal.WantOfMemory) → Meets is_memory (recalled cache key now p) old new (k, x) (l, x) r
+  pub cut_after : {old new : Link} {k l : AuthState} {x : Option Answers} (a : A) → known cache key now x ≡ None
+      → Meets is_memory p old new k l (Ok a) → Meets is_memory (recalled cache key now p) old new (k, x) (l, x) (Err refusal.WantOfMemory)
   unfolding then_kept
-  cut_after {x = x} a is met err = by_known None is (Meets-next then_kept (Meets-lifted x met) (absent err))
+  cut_after {x = x} a is met = by_known None is (Meets-next then_kept (Meets-lifted x met) absent)
 
   -- the uncached call returned a response, which is cached
   pub given : {old new : Link} {k l : AuthState} {x : Option Answers} (a : A) → known cache key now x ≡ None

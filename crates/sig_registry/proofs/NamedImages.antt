@@ -11,7 +11,7 @@ use Rattle.oci_auth.specs.declared.auth.RegistryAuth.{RegistryAuth}
 use Rattle.oci_auth.specs.declared.auth_state.AuthState.{AuthState}
 use Rattle.oci_digests.specs.Names.{Names, names}
 use Rattle.oci_digests.proofs.Equal.{named}
-use Rattle.oci_descriptors.specs.declared.descriptor.OciDescriptor.{OciDescriptor}
+use Rattle.oci_manifests.specs.declared.descriptor.OciDescriptor.{OciDescriptor}
 use Rattle.oci_manifests.specs.declared.blob.ImageLayer.{ImageLayer}
 use Rattle.oci_manifests.specs.declared.manifest.OciImageManifest.{OciImageManifest}
 use Rattle.oci_protocol.specs.Runs.{Runs, Meets}
@@ -23,7 +23,7 @@ use Rattle.engine_terms.specs.Error.{is_memory as engine_is_memory}
 use Rattle.engine_requests.specs.Sources.{described}
 use Rattle.engine_rows.specs.Blobs.{IntoMemory}
 use Rattle.engine_rows.specs.Pulls.{held_blob}
-use Rattle.engine_rows.specs.Image.{layer_of, config_of, pull_layers, pull}
+use Rattle.engine_rows.specs.Image.{layer_of, layers_by, config_of, pull_layers, pull}
 use Rattle.engine_rows.specs.Manifests.{pull_image_manifest_and_list_digest}
 use Rattle.engine_rows.specs.declared.image.ImageData.{ImageData}
 use Rattle.engine_laws.proofs.BlobAnswers.{blob_shows}
@@ -58,7 +58,7 @@ one_more x xs got content all names_it rest = record {
 }
 
 layers_named : (s : Context) (image : Reference) (xs : List OciDescriptor) (got all : List ImageLayer) (k l : AuthState) (m n : ℕ) (c : List Exchange) → Runs (pull_layers s image xs got) k m c n l (Ok all) → Behind xs got all
-unfolding pull_layers
+unfolding layers_by
 layers_named s image [] got all k l m n c run =
     let same : got ≡ all = cc ((Runs-done (Ok got) k m c n l (Ok all) run).2) in
     record { more = []; is = sym same ∙ sym (append-nil got); named = refl }

@@ -7,10 +7,9 @@ use crate::calls::{
 };
 use json_values::{Blob, Text};
 use oci_auth::RegistryAuth;
-use oci_descriptors::OciDescriptor;
 use oci_engine::{Client, ImageData, PlatformResolver, PushResponse};
 use oci_manifests::blob::Config;
-use oci_manifests::{ImageLayer, OciImageIndex, OciImageManifest, OciManifest};
+use oci_manifests::{ImageLayer, OciDescriptor, OciImageIndex, OciImageManifest, OciManifest};
 use oci_names::Reference;
 use oci_transport::Transport;
 use registry_cache::{

@@ -13,10 +13,9 @@ ghost use Rattle.registry_calls.specs.Named.{is_named};
 
 use json_values::{Blob, Text};
 use oci_auth::{RegistryAuth, RegistryOperation};
-use oci_descriptors::OciDescriptor;
 use oci_engine::{Client, ImageData, PushResponse};
 use oci_manifests::blob::Config;
-use oci_manifests::{ImageLayer, OciImageIndex, OciImageManifest, OciManifest};
+use oci_manifests::{ImageLayer, OciDescriptor, OciImageIndex, OciImageManifest, OciManifest};
 use oci_names::Reference;
 use oci_transport::Transport;
 use registry_calls::{Called, SigstoreError, with_error_context};

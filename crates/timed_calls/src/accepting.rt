@@ -13,7 +13,7 @@ const TAGS: usize = 1000;
 /// The number of bytes of a chunk, the most that a request sends.
 const CHUNK: usize = 4_194_304;
 
-/// Accepts each upload and drops its bytes. The body of a response to another request is a list of tags: so many
+/// Accepts each upload and drops its bytes. The body of a response to another request is a list of tags: a number of
 /// pieces of 1000 tags, and one tag more. It exposes no exchange.
 #[derive(Drop)]
 pub struct Accepting {
@@ -23,7 +23,7 @@ pub struct Accepting {
 }
 
 impl Accepting {
-    /// A registry whose list of tags has so many thousands, and one tag more.
+    /// A registry whose list of tags has `thousands` thousand tags, and one more.
     pub fn new(thousands: u64) -> Accepting {
         Accepting {
             begun: false,
@@ -98,7 +98,7 @@ pub fn chunk(alloc: Global) -> Result<Blob, AllocError> {
     Ok(Blob::from_vec(bytes))
 }
 
-/// Gives so many chunks. It exposes none of them.
+/// Gives a number of chunks. It exposes none of them.
 #[derive(Drop)]
 pub struct Given {
     pub left: u64,

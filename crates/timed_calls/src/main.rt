@@ -4,7 +4,7 @@
 //! when they are requested. Or pushes a blob of `MIB` MiB to a registry that keeps nothing (`push MIB`), only copies the
 //! same bytes (`copy MIB`), pushes an image of `N` layers (`layers N`), or lists `N` thousand tags (`tags N`).
 //!
-//! The exit status is 1 if the digest differs, 2 for other arguments, 3 if the input is no manifest, JSON or bundle, 4
+//! The exit status is 1 if the digest differs, 2 for other arguments, 3 if the input does not parse, 4
 //! if it could not be read, 5 if the output could not be written, and 6 if memory ran out.
 #![tactic(auto)]
 

@@ -19,7 +19,7 @@ use Rattle.oci_names.specs.declared.algorithm.Algorithm.TheVariants.{Sha256}
 use Rattle.oci_manifests.specs.declared.document.OciManifest.{OciManifest}
 use Rattle.oci_manifests.specs.declared.document.OciManifest.TheVariants.{Image, ImageIndex}
 use Rattle.oci_manifests.specs.declared.blob.ImageLayer.{ImageLayer}
-use Rattle.oci_descriptors.specs.declared.descriptor.OciDescriptor.{OciDescriptor}
+use Rattle.oci_manifests.specs.declared.descriptor.OciDescriptor.{OciDescriptor}
 use Rattle.oci_link.specs.Leads.{entry_leads, redirects_lead}
 use Rattle.oci_link.specs.Table.{digest_named}
 use Rattle.oci_link.specs.declared.shelf.Shelf.{Shelf}
@@ -34,8 +34,8 @@ use Rattle.oci_digests.proofs.Algorithms.{digest_is_digest, digest_is_known}
 use Rattle.cosign_layers.specs.Satisfying.{PolicyContext}
 use Rattle.cosign_rows.specs.References.{digest_reference}
 use Rattle.cosign_rows.specs.Search.{bundle_type}
-use Rattle.cosign_shelves.specs.Shelves.{IsAsked, SignedByReferrer, WideShelf}
-use Rattle.cosign_shelves.specs.Small.{Texts, sha256, Packed}
+use Rattle.cosign_laws.specs.Shelves.{IsAsked, SignedByReferrer, WideShelf}
+use Rattle.cosign_laws.specs.Small.{Texts, sha256, Packed}
 use Rattle.valid_shelves.specs.Referred.{document_of, referred_shelf, Selects, IsReferred}
 use Rattle.valid_shelves.proofs.Maps.{Has, same_key, inserted, others_by, still_has, Kept, kept_empty, kept_insert}
 

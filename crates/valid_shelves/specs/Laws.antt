@@ -9,8 +9,8 @@ use Rattle.engine_terms.specs.declared.settings.Settings.{Settings}
 use Rattle.cosign_parts.specs.Trust.{Trust}
 use Rattle.cosign_layers.specs.Satisfying.{CustomVerdict, policy_context}
 use Rattle.cosign_layers.specs.declared.policy.PullPolicy.{PullPolicy}
-use Rattle.cosign_shelves.specs.Shelves.{ValidShelf, WideShelf}
-use Rattle.cosign_shelves.specs.Small.{Packed, shelf_of, IsSmall}
+use Rattle.cosign_laws.specs.Shelves.{ValidShelf, WideShelf}
+use Rattle.cosign_laws.specs.Small.{Packed, shelf_of, IsSmall}
 use Rattle.valid_shelves.specs.Referred.{referred_shelf, IsReferred}
 
 -- what is valid is wide

@@ -10,7 +10,7 @@ use Rattle.oci_names.specs.declared.algorithm.Algorithm.{Algorithm}
 use Rattle.oci_manifests.specs.declared.document.OciManifest.{OciManifest}
 use Rattle.oci_manifests.specs.declared.document.OciManifest.TheVariants.{Image, ImageIndex}
 use Rattle.oci_manifests.specs.declared.index.OciImageIndex.{OciImageIndex}
-use Rattle.oci_descriptors.specs.declared.index_entry.ImageIndexEntry.{ImageIndexEntry}
+use Rattle.oci_manifests.specs.declared.index_entry.ImageIndexEntry.{ImageIndexEntry}
 use Rattle.oci_transport.specs.Headers.{is_header_value}
 use Rattle.oci_link.specs.declared.shelf.Shelf.{Shelf}
 use Rattle.oci_link.specs.declared.shelf.ShelfDocument.{ShelfDocument}
@@ -24,7 +24,7 @@ use Rattle.cosign_layers.specs.Satisfying.{PolicyContext, StandsFor}
 use Rattle.cosign_parts.specs.declared.layer.SignatureLayer.{SignatureLayer}
 use Rattle.cosign_rows.specs.Part.{read_bundle}
 use Rattle.cosign_rows.specs.Search.{bundle_type}
-use Rattle.cosign_shelves.specs.Small.{Texts, sha256, Packed, blobs_of}
+use Rattle.cosign_laws.specs.Small.{Texts, sha256, Packed, blobs_of}
 
 -- ---- the shelf
 

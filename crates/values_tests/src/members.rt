@@ -1,6 +1,6 @@
 // JSON texts that are objects with given members only, and others.
 use crate::values::{holds, repeated};
-use json_members::{has_only, may_have_only};
+use json_tables::{has_only, may_have_only};
 use json_values::Blob;
 use std::alloc::{AllocError, Global};
 

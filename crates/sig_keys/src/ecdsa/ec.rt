@@ -2,15 +2,13 @@
 ghost use Rattle.std.specs.Prelude.{◌≡◌, IfOk};
 ghost use Rattle.sig_keys.specs.Ec.{keys_on, ecdsa_keys_of, ecdsa_signer, MadeKeys};
 ghost use Rattle.sig_keys.specs.Ecdsa.{wrapped};
-ghost use Rattle.key_schemes.specs.Outcomes.{Makes, Parses};
-ghost use Rattle.key_schemes.specs.Scheme.{kind_of, curve_scheme};
+ghost use Rattle.key_parts.specs.Outcomes.{Makes, Parses};
+ghost use Rattle.key_parts.specs.Scheme.{kind_of, curve_scheme};
 
 use super::ECDSAKeys as AnyCurveKeys;
 use crate::signer::Signer;
 use json_values::{Blob, Copied, copied};
-use key_schemes::{
-    CosignVerificationKey, EllipticCurve, KeyError, KeyMaker, KeyPair, SigningScheme,
-};
+use key_parts::{CosignVerificationKey, EllipticCurve, KeyError, KeyMaker, KeyPair, SigningScheme};
 use std::alloc::{AllocError, Global};
 use std::fmt;
 

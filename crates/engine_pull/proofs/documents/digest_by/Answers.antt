@@ -1,4 +1,4 @@
-use Rattle.engine_rows.proofs.Exits.{refused, and_then, said, done, passed_on}
+use Rattle.oci_protocol.proofs.Exits.{refused, and_then, said, done, passed_on}
 use Rattle.engine_pull.proofs.documents.digest_by.Goals as goal
 
 pub returns-in_err-_body-in-ByHeader : goal.returns-in_err-_body-in-ByHeader

@@ -1,4 +1,5 @@
-use Rattle.engine_rows.proofs.Exits.{refused, wanting, and_then, said, passed_on, stores_as}
+use Rattle.oci_protocol.proofs.Exits.{refused, and_then, said, passed_on}
+use Rattle.engine_rows.proofs.Exits.{wanting, stores_as}
 use Rattle.engine_rows.specs.Pulls.{fetch_manifest_digest}
 use Rattle.engine_pull.proofs.documents.fetch_manifest_digest.Goals as goal
 

@@ -1,4 +1,4 @@
-use Rattle.engine_rows.proofs.Exits.{refused, and_then, said, done}
+use Rattle.oci_protocol.proofs.Exits.{refused, and_then, said, done}
 use Rattle.engine_rows.specs.Pulls.{manifest_asked}
 use Rattle.engine_pull.proofs.documents.manifest_asked.Goals as goal
 

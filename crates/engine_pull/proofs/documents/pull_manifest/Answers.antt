@@ -1,4 +1,4 @@
-use Rattle.engine_rows.proofs.Exits.{refused, and_then, said, done}
+use Rattle.oci_protocol.proofs.Exits.{refused, and_then, said, done}
 use Rattle.engine_rows.specs.Pulls.{pull_manifest}
 use Rattle.engine_pull.proofs.documents.pull_manifest.Goals as goal
 

@@ -1,4 +1,5 @@
-use Rattle.engine_rows.proofs.Exits.{wanting, and_then, passed_on, stores_as}
+use Rattle.oci_protocol.proofs.Exits.{and_then, passed_on}
+use Rattle.engine_rows.proofs.Exits.{wanting, stores_as}
 use Rattle.engine_rows.specs.Pulls.{pull_manifest_raw}
 use Rattle.engine_pull.proofs.documents.pull_manifest_raw.Goals as goal
 

@@ -1,4 +1,4 @@
-use Rattle.engine_rows.proofs.Exits.{refused, and_then, done}
+use Rattle.oci_protocol.proofs.Exits.{refused, and_then, done}
 use Rattle.engine_rows.specs.Image.{pull}
 use Rattle.engine_pull.proofs.ImageParts.{image_with}
 use Rattle.engine_pull.proofs.image.pull.Goals as goal

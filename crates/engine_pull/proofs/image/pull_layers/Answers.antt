@@ -1,6 +1,7 @@
 use Rattle.std.proofs.lemmas.List.{drop_all}
-use Rattle.engine_rows.proofs.Exits.{refused, wanting, and_then}
-use Rattle.engine_blobs.proofs.Layers.{held_as, layers_end, layers_next}
+use Rattle.oci_protocol.proofs.Exits.{refused, and_then}
+use Rattle.engine_rows.proofs.Exits.{wanting}
+use Rattle.engine_pull.proofs.Layers.{held_as, layers_end, layers_next}
 use Rattle.engine_pull.proofs.image.pull_layers.Goals as goal
 
 pub loop-descriptor-init : goal.loop-descriptor-init

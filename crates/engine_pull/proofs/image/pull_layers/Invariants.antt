@@ -1,7 +1,7 @@
 use Rattle.std.proofs.Common.{drop}
 use Rattle.engine_terms.specs.Contexts.{context_of}
 use Rattle.engine_rows.specs.Image.{pull_layers}
-use Rattle.engine_blobs.proofs.Layers.{Leads}
+use Rattle.engine_pull.proofs.Layers.{Leads}
 use Rattle.engine_pull.proofs.image.pull_layers.Given as goal
 
 -- the requests so far lead to the descriptors that are left

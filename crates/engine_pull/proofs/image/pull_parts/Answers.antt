@@ -1,6 +1,7 @@
 use Rattle.std.proofs.Common.{refl}
-use Rattle.engine_rows.proofs.Exits.{refused, wanting, and_then, said}
-use Rattle.engine_blobs.proofs.Layers.{held_as}
+use Rattle.oci_protocol.proofs.Exits.{refused, and_then, said}
+use Rattle.engine_rows.proofs.Exits.{wanting}
+use Rattle.engine_pull.proofs.Layers.{held_as}
 use Rattle.engine_terms.specs.Contexts.{context_of}
 use Rattle.engine_pull.proofs.ImageParts.{parts_refused}
 use Rattle.engine_pull.proofs.image.pull_parts.Goals as goal

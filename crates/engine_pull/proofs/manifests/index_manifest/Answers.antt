@@ -1,4 +1,4 @@
-use Rattle.engine_rows.proofs.Exits.{refused, and_then, said, done}
+use Rattle.oci_protocol.proofs.Exits.{refused, and_then, said, done}
 use Rattle.engine_pull.proofs.manifests.index_manifest.Goals as goal
 
 pub returns-in_err-entry : goal.returns-in_err-entry

@@ -1,4 +1,4 @@
-use Rattle.engine_rows.proofs.Exits.{passed_on, done}
+use Rattle.oci_protocol.proofs.Exits.{passed_on, done}
 use Rattle.engine_pull.proofs.manifests.manifest_by.Goals as goal
 
 pub returns-in-Image : goal.returns-in-Image

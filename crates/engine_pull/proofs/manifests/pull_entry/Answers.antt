@@ -1,4 +1,5 @@
-use Rattle.engine_rows.proofs.Exits.{refused, wanting, and_then, said, passed_on}
+use Rattle.oci_protocol.proofs.Exits.{refused, and_then, said, passed_on}
+use Rattle.engine_rows.proofs.Exits.{wanting}
 use Rattle.engine_rows.specs.Manifests.{pull_entry}
 use Rattle.engine_pull.proofs.manifests.pull_entry.Goals as goal
 

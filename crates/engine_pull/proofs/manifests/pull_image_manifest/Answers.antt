@@ -1,4 +1,4 @@
-use Rattle.engine_rows.proofs.Exits.{refused, and_then, done}
+use Rattle.oci_protocol.proofs.Exits.{refused, and_then, done}
 use Rattle.engine_rows.specs.Manifests.{pull_image_manifest}
 use Rattle.engine_pull.proofs.manifests.pull_image_manifest.Goals as goal
 

@@ -1,4 +1,4 @@
-use Rattle.engine_rows.proofs.Exits.{refused, passed_on, and_then}
+use Rattle.oci_protocol.proofs.Exits.{refused, passed_on, and_then}
 use Rattle.engine_rows.specs.Manifests.{pull_image_manifest_and_list_digest}
 use Rattle.engine_pull.proofs.manifests.pull_image_manifest_and_list_digest.Goals as goal
 

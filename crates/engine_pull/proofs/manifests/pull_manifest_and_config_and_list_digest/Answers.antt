@@ -1,6 +1,6 @@
-use Rattle.engine_rows.proofs.Exits.{refused, and_then, said, done}
+use Rattle.oci_protocol.proofs.Exits.{refused, and_then, said, done}
 use Rattle.engine_rows.specs.Manifests.{pull_manifest_and_config_and_list_digest}
-use Rattle.engine_blobs.proofs.Layers.{held_as}
+use Rattle.engine_pull.proofs.Layers.{held_as}
 use Rattle.engine_pull.proofs.manifests.pull_manifest_and_config_and_list_digest.Goals as goal
 
 pub returns-in_err-found : goal.returns-in_err-found

@@ -1,4 +1,4 @@
-use Rattle.engine_rows.proofs.Exits.{refused, and_then, said, passed_on}
+use Rattle.oci_protocol.proofs.Exits.{refused, and_then, said, passed_on}
 use Rattle.engine_rows.specs.Referrers.{referrers_asked}
 use Rattle.engine_pull.proofs.referrers.referrers_asked.Goals as goal
 

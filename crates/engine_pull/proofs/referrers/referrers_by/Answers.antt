@@ -1,4 +1,4 @@
-use Rattle.engine_rows.proofs.Exits.{passed_on}
+use Rattle.oci_protocol.proofs.Exits.{passed_on}
 use Rattle.engine_pull.proofs.TagLists.{listed_met, by_tag_met}
 use Rattle.engine_pull.proofs.referrers.referrers_by.Goals as goal
 

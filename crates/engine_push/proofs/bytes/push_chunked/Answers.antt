@@ -1,4 +1,4 @@
-use Rattle.engine_rows.proofs.Exits.{refused, and_then, passed_on}
+use Rattle.oci_protocol.proofs.Exits.{refused, and_then, passed_on}
 use Rattle.push_rows.specs.Calls.{push_chunked}
 use Rattle.engine_push.proofs.bytes.push_chunked.Goals as goal
 

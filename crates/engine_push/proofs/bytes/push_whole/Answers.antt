@@ -1,5 +1,6 @@
 use Rattle.std.proofs.Common.{refl}
-use Rattle.engine_rows.proofs.Exits.{refused, wanting, and_then, passed_on}
+use Rattle.oci_protocol.proofs.Exits.{refused, and_then, passed_on}
+use Rattle.engine_rows.proofs.Exits.{wanting}
 use Rattle.push_rows.specs.Calls.{push_whole}
 use Rattle.engine_push.proofs.CallTree.{none_given, some_given}
 use Rattle.engine_push.proofs.bytes.push_whole.Goals as goal

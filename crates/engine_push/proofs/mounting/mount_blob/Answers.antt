@@ -1,4 +1,5 @@
-use Rattle.engine_rows.proofs.Exits.{refused, wanting, and_then, said, done}
+use Rattle.oci_protocol.proofs.Exits.{refused, and_then, said, done}
+use Rattle.engine_rows.proofs.Exits.{wanting}
 use Rattle.push_rows.specs.Calls.{mount_blob}
 use Rattle.engine_push.proofs.mounting.mount_blob.Goals as goal
 

@@ -1,5 +1,6 @@
 use Rattle.std.proofs.Common.{refl, Some}
-use Rattle.engine_rows.proofs.Exits.{refused, wanting, and_then}
+use Rattle.oci_protocol.proofs.Exits.{refused, and_then}
+use Rattle.engine_rows.proofs.Exits.{wanting}
 use Rattle.push_rows.specs.Calls.{push_blob_stream_chunked}
 use Rattle.push_rows.proofs.Endings.{begun_told, ended_told}
 use Rattle.engine_push.proofs.PieceTree.{none_of_left, pushes_refused, cuts_refused, err_is, step_source, step_behind, sent_source, sent_behind}

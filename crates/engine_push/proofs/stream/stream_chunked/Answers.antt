@@ -1,4 +1,4 @@
-use Rattle.engine_rows.proofs.Exits.{and_then, passed_on}
+use Rattle.oci_protocol.proofs.Exits.{and_then, passed_on}
 use Rattle.push_rows.specs.Calls.{stream_chunked}
 use Rattle.push_rows.proofs.Endings.{begun_told, ended_told}
 use Rattle.engine_push.proofs.PieceTree.{none_of_left, pushes_refused, cuts_refused, err_is, step_sent, step_behind, sent_behind}

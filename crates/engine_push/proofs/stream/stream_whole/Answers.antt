@@ -1,5 +1,5 @@
 use Rattle.std.proofs.Common.{refl}
-use Rattle.engine_rows.proofs.Exits.{refused, and_then, done, passed_on}
+use Rattle.oci_protocol.proofs.Exits.{refused, and_then, done, passed_on}
 use Rattle.push_rows.specs.Calls.{stream_whole}
 use Rattle.push_rows.proofs.Carried.{carries_none, carries_front}
 use Rattle.push_rows.proofs.Endings.{begun_told, ended_told}

@@ -1,4 +1,4 @@
-use Rattle.engine_rows.proofs.Exits.{passed_on}
+use Rattle.oci_protocol.proofs.Exits.{passed_on}
 use Rattle.std.proofs.Common.{refl}
 use Rattle.engine_push.proofs.LocationTree.{location_headed, location_refused, location_long, location_failed, location_wanting, location_missed, location_cut}
 use Rattle.engine_push.proofs.uploads.location_after.Goals as goal

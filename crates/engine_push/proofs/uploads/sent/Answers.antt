@@ -2,7 +2,7 @@ use Rattle.std.proofs.Common.{ℕ, List, Result, Ok}
 use Rattle.engine_terms.specs.declared.error.OciDistributionError.{OciDistributionError}
 use Rattle.push_rows.specs.Contents.{bytes_of}
 use Rattle.push_rows.specs.PieceStates.{part}
-use Rattle.engine_rows.proofs.Exits.{refused, and_then, said, passed_on}
+use Rattle.oci_protocol.proofs.Exits.{refused, and_then, said, passed_on}
 use Rattle.push_rows.specs.Uploads.{sent}
 use Rattle.push_rows.proofs.Carried.{sends_behind, sends_nothing}
 use Rattle.engine_push.proofs.LocationTree.{location_sends, as_sent}

@@ -1,4 +1,4 @@
-use Rattle.engine_rows.proofs.Exits.{refused, and_then, said, passed_on}
+use Rattle.oci_protocol.proofs.Exits.{refused, and_then, said, passed_on}
 use Rattle.push_rows.specs.Uploads.{upload_begun}
 use Rattle.push_rows.proofs.Carried.{carries_none, sends_nothing, sends_as}
 use Rattle.engine_push.proofs.uploads.upload_begun.Goals as goal

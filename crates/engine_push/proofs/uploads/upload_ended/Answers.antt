@@ -1,4 +1,5 @@
-use Rattle.engine_rows.proofs.Exits.{refused, wanting, and_then, said, passed_on}
+use Rattle.oci_protocol.proofs.Exits.{refused, and_then, said, passed_on}
+use Rattle.engine_rows.proofs.Exits.{wanting}
 use Rattle.push_rows.specs.Uploads.{upload_ended}
 use Rattle.push_rows.proofs.Carried.{carries_none, sends_nothing, sends_as}
 use Rattle.engine_push.proofs.uploads.upload_ended.Goals as goal

@@ -1,6 +1,7 @@
 use Rattle.engine_steps.proofs.HelperTrees.{not_ok}
 use Rattle.engine_steps.proofs.RealmTokens.{no_text}
-use Rattle.engine_rows.proofs.Exits.{refused, wanting, and_then, done, stores_as, keeps_text}
+use Rattle.oci_protocol.proofs.Exits.{refused, and_then, done}
+use Rattle.engine_rows.proofs.Exits.{wanting, stores_as, keeps_text}
 use Rattle.engine_rows.specs.Rows.{token_given}
 use Rattle.engine_steps.proofs.given.token_given.Goals as goal
 

@@ -1,5 +1,6 @@
 use Rattle.std.proofs.Common.{sym, ◌∙◌}
-use Rattle.engine_rows.proofs.Exits.{refused, wanting, and_then, said, done, passed_on}
+use Rattle.oci_protocol.proofs.Exits.{refused, and_then, said, done, passed_on}
+use Rattle.engine_rows.proofs.Exits.{wanting}
 use Rattle.engine_rows.specs.Rows.{authorized}
 use Rattle.engine_steps.proofs.tokens.authorized.Goals as goal
 

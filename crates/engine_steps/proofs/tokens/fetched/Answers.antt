@@ -1,7 +1,8 @@
 use Rattle.std.proofs.Common.{refl}
 use Rattle.engine_steps.proofs.HelperTrees.{not_ok}
 use Rattle.engine_steps.proofs.RealmTokens.{unless_bearer, whatever_token}
-use Rattle.engine_rows.proofs.Exits.{wanting, done, passed_on}
+use Rattle.oci_protocol.proofs.Exits.{done, passed_on}
+use Rattle.engine_rows.proofs.Exits.{wanting}
 use Rattle.engine_steps.proofs.tokens.fetched.Goals as goal
 
 pub returns-in-Nothing : goal.returns-in-Nothing

@@ -1,4 +1,4 @@
-use Rattle.engine_rows.proofs.Exits.{refused, and_then, said, passed_on}
+use Rattle.oci_protocol.proofs.Exits.{refused, and_then, said, passed_on}
 use Rattle.engine_rows.specs.Rows.{prepared}
 use Rattle.engine_steps.proofs.tokens.prepared.Goals as goal
 

@@ -1,6 +1,6 @@
 use Rattle.engine_steps.proofs.HelperTrees.{not_ok}
 use Rattle.engine_steps.proofs.RealmTokens.{realm_bearer}
-use Rattle.engine_rows.proofs.Exits.{refused, and_then, said, passed_on}
+use Rattle.oci_protocol.proofs.Exits.{refused, and_then, said, passed_on}
 use Rattle.engine_rows.specs.Rows.{realm_asked}
 use Rattle.engine_steps.proofs.tokens.realm_asked.Goals as goal
 

@@ -1,6 +1,7 @@
 use Rattle.engine_steps.proofs.HelperTrees.{not_ok}
 use Rattle.engine_steps.proofs.RealmTokens.{left_untaken}
-use Rattle.engine_rows.proofs.Exits.{refused, wanting, and_then, said, passed_on}
+use Rattle.oci_protocol.proofs.Exits.{refused, and_then, said, passed_on}
+use Rattle.engine_rows.proofs.Exits.{wanting}
 use Rattle.engine_rows.specs.Rows.{registry_asked}
 use Rattle.engine_steps.proofs.tokens.registry_asked.Goals as goal
 

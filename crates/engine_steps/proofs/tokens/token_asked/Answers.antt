@@ -1,4 +1,5 @@
-use Rattle.engine_rows.proofs.Exits.{wanting, done, caught, keeps_token, passed_met}
+use Rattle.oci_protocol.proofs.Exits.{done}
+use Rattle.engine_rows.proofs.Exits.{wanting, caught, keeps_token, passed_met}
 use Rattle.engine_rows.specs.Rows.{token_asked}
 use Rattle.engine_steps.proofs.tokens.token_asked.Goals as goal
 

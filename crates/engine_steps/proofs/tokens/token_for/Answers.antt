@@ -1,5 +1,6 @@
 use Rattle.std.proofs.Common.{sym, ◌∙◌}
-use Rattle.engine_rows.proofs.Exits.{wanting, done, recalled, passed_on}
+use Rattle.oci_protocol.proofs.Exits.{done, passed_on}
+use Rattle.engine_rows.proofs.Exits.{wanting, recalled}
 use Rattle.engine_rows.specs.Rows.{token_for}
 use Rattle.engine_steps.proofs.tokens.token_for.Goals as goal
 

@@ -1,7 +1,8 @@
 use Rattle.std.proofs.Common.{sym, ◌∙◌}
 use Rattle.engine_steps.proofs.HelperTrees.{not_ok}
 use Rattle.engine_steps.proofs.RealmTokens.{unasked_given}
-use Rattle.engine_rows.proofs.Exits.{wanting, done, passed_on}
+use Rattle.oci_protocol.proofs.Exits.{done, passed_on}
+use Rattle.engine_rows.proofs.Exits.{wanting}
 use Rattle.engine_steps.proofs.tokens.token_step.Goals as goal
 
 pub returns-in_err-unasked : goal.returns-in_err-unasked

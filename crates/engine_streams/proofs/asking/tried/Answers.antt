@@ -1,5 +1,6 @@
 use Rattle.std.proofs.lemmas.List.{drop_all}
-use Rattle.engine_rows.proofs.Exits.{wanting, passed_on}
+use Rattle.oci_protocol.proofs.Exits.{passed_on}
+use Rattle.engine_rows.proofs.Exits.{wanting}
 use Rattle.engine_steps.proofs.HelperTrees.{not_ok}
 use Rattle.engine_streams.proofs.NextPlaces.{leads_start, left_more, passed, first_refused, first_found, next_unasked, next_asked, last_asked}
 use Rattle.engine_streams.proofs.asking.tried.Goals as goal

@@ -1,4 +1,4 @@
-use Rattle.engine_rows.proofs.Exits.{refused, and_then, said, passed_on}
+use Rattle.oci_protocol.proofs.Exits.{refused, and_then, said, passed_on}
 use Rattle.engine_steps.proofs.HelperTrees.{not_ok}
 use Rattle.engine_streams.proofs.NextPlaces.{left_more, met_told}
 use Rattle.engine_streams.specs.Blobs.{opened}

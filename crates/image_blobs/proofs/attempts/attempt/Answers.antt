@@ -1,5 +1,5 @@
 use Rattle.std.proofs.Common.{refl, None}
-use Rattle.engine_blobs.proofs.AttemptSteps.{fault_is_none, memory_is_none, spills_none, spills_on}
+use Rattle.engine_pull.proofs.AttemptSteps.{fault_is_none, memory_is_none, spills_none, spills_on}
 use Rattle.image_blobs.proofs.CutSteps.{cut_missed, cut_unsent}
 use Rattle.image_blobs.proofs.WithinSize.{within_none}
 use Rattle.image_blobs.proofs.attempts.attempt.Goals as goal

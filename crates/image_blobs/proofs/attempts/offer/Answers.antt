@@ -1,5 +1,5 @@
 use Rattle.std.proofs.Common.{refl, sym, ◌∙◌, Some}
-use Rattle.engine_blobs.proofs.AttemptSteps.{fault_is_none, memory_is_none, spills_none, offered_into_refused}
+use Rattle.engine_pull.proofs.AttemptSteps.{fault_is_none, memory_is_none, spills_none, offered_into_refused}
 use Rattle.image_blobs.proofs.CutSteps.{cut_missed, cut_unsent, cut_passed, not_instead}
 use Rattle.image_blobs.proofs.WithinSize.{within_none, refused_offer, taken_offer, failed_offer}
 use Rattle.image_blobs.proofs.attempts.offer.Goals as goal

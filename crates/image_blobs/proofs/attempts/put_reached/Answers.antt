@@ -1,6 +1,6 @@
 use Rattle.std.proofs.Common.{refl, sym, ◌∙◌, arith}
 use Rattle.oci_protocol.proofs.Conversations.{Steady-none}
-use Rattle.engine_blobs.proofs.AttemptSteps.{fault_is_none, long_is_none, memory_is_none, digest_is_none, spills_none, spills_wanting, spills_front, pours_success}
+use Rattle.engine_pull.proofs.AttemptSteps.{fault_is_none, long_is_none, memory_is_none, digest_is_none, spills_none, spills_wanting, spills_front, pours_success}
 use Rattle.image_blobs.proofs.CutSteps.{cut_judged, cut_whole, cut_other, cut_wanting, cut_unread, cut_long, cut_failed, cut_spilled, judged_limit, poured_limit}
 use Rattle.image_blobs.proofs.WithinSize.{within_none}
 use Rattle.image_blobs.proofs.attempts.put_reached.Goals as goal

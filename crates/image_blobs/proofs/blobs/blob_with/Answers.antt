@@ -1,9 +1,9 @@
 use Rattle.std.proofs.Common.{Some}
 use Rattle.oci_protocol.proofs.Laws.{Meets-refused}
-use Rattle.engine_rows.proofs.Exits.{said}
-use Rattle.engine_blobs.proofs.AttemptSteps.{spills_next, spills_on}
-use Rattle.engine_blobs.proofs.NoSink.{spills_refused, done_calm, read_calm, request_calm}
-use Rattle.blob_laws.specs.Blobs.{blob_with}
+use Rattle.oci_protocol.proofs.Exits.{said}
+use Rattle.engine_pull.proofs.AttemptSteps.{spills_next, spills_on}
+use Rattle.engine_pull.proofs.NoSink.{spills_refused, done_calm, read_calm, request_calm}
+use Rattle.call_laws.specs.Blobs.{blob_with}
 use Rattle.image_blobs.proofs.WithinSize.{within_none}
 use Rattle.image_blobs.proofs.blobs.blob_with.Goals as goal
 

@@ -1,7 +1,7 @@
 use Rattle.std.proofs.Common.{refl, sym, ◌∙◌}
 use Rattle.std.proofs.lemmas.List.{drop_all}
-use Rattle.engine_blobs.proofs.AttemptSteps.{spills_on}
-use Rattle.engine_blobs.proofs.PlacesInTurn.{put_wanting, put_taken, put_passed}
+use Rattle.engine_pull.proofs.AttemptSteps.{spills_on}
+use Rattle.engine_pull.proofs.PlacesInTurn.{put_wanting, put_taken, put_passed}
 use Rattle.image_blobs.proofs.CutPlaces.{put_last, put_over, put_at, put_unasked, put_asked}
 use Rattle.image_blobs.proofs.WithinSize.{within_none, within_same, unwritten}
 use Rattle.image_blobs.proofs.blobs.cut_at.Goals as goal

@@ -1,7 +1,7 @@
 use Rattle.std.proofs.Common.{◌≡◌, drop}
 use Rattle.engine_requests.specs.Sources.{places_of}
-use Rattle.engine_blobs.proofs.PlacesInTurn.{LeadsInto}
-use Rattle.blob_laws.specs.Cut.{cut_at}
+use Rattle.engine_pull.proofs.PlacesInTurn.{LeadsInto}
+use Rattle.call_laws.specs.Cut.{cut_at}
 use Rattle.image_blobs.proofs.blobs.cut_at.Given as goal
 
 -- the requests so far lead to the places that are left, and nothing was written

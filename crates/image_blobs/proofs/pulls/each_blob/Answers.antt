@@ -1,7 +1,7 @@
 use Rattle.std.proofs.Common.{inl, inr}
 use Rattle.std.proofs.lemmas.Result.{err_from_is_err_and}
 use Rattle.image_blobs.proofs.EachInTurn.{range_none, so_far_none, so_far_next, met_stops, took_till, met_ends, took_ends}
-use Rattle.blob_laws.specs.Blobs.{descriptors_of, range_of}
+use Rattle.call_laws.specs.Blobs.{descriptors_of, range_of}
 use Rattle.image_blobs.proofs.PullsOfRange.{took_err}
 use Rattle.image_blobs.proofs.SinksTaken.{rises, stays}
 use Rattle.image_blobs.proofs.pulls.each_blob.Goals as goal

@@ -1,5 +1,5 @@
 use Rattle.std.proofs.Common.{◌-◌}
-use Rattle.blob_laws.specs.Blobs.{descriptors_of}
+use Rattle.call_laws.specs.Blobs.{descriptors_of}
 use Rattle.image_blobs.proofs.EachInTurn.{SoFar}
 use Rattle.image_blobs.proofs.pulls.each_blob.Given as goal
 

@@ -1,5 +1,5 @@
 use Rattle.std.proofs.Common.{refl, ap, Err, Ok}
-use Rattle.blob_laws.proofs.BlobTaken.{with_took}
+use Rattle.call_laws.proofs.BlobTaken.{with_took}
 use Rattle.image_blobs.proofs.EachInTurn.{sinks_say, sinks_count, unopened, unfilled, unclosed, kept}
 use Rattle.image_blobs.proofs.SinksTaken.{closes_more, took_one, took_refused, took_front, took_nothing, told_nothing, rises, stays}
 use Rattle.image_blobs.proofs.pulls.kept_blob.Goals as goal

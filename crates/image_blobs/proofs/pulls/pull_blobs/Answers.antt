@@ -1,5 +1,5 @@
 use Rattle.engine_terms.specs.Contexts.{context_of}
-use Rattle.blob_laws.specs.Blobs.{descriptors_of}
+use Rattle.call_laws.specs.Blobs.{descriptors_of}
 use Rattle.image_blobs.proofs.PullsOfRange.{pull_confined, pull_fault}
 use Rattle.image_blobs.proofs.pulls.pull_blobs.Goals as goal
 

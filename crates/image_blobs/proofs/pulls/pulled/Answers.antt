@@ -1,7 +1,7 @@
 use Rattle.std.proofs.Common.{inl, inr, Ok, Err, arith}
 use Rattle.std.proofs.lemmas.Result.{err_from_is_err_and}
 use Rattle.engine_terms.specs.Contexts.{context_of}
-use Rattle.blob_laws.specs.Blobs.{descriptors_of, range_of}
+use Rattle.call_laws.specs.Blobs.{descriptors_of, range_of}
 use Rattle.image_blobs.proofs.EachInTurn.{range_none}
 use Rattle.image_blobs.proofs.PullsOfRange.{pull_none, pull_unread, pull_unauthorized, pull_each, pull_refused, none_took, first_took, each_took, url_counted, token_counted, took_err}
 use Rattle.image_blobs.proofs.pulls.pulled.Goals as goal

@@ -1,5 +1,5 @@
 use Rattle.std.proofs.Common.{◌-◌}
-use Rattle.blob_laws.specs.Blobs.{descriptors_of}
+use Rattle.call_laws.specs.Blobs.{descriptors_of}
 use Rattle.live_blobs.proofs.Listed.{Listed}
 use Rattle.live_blobs.proofs.delivery.digests.Given as goal
 

@@ -1,4 +1,4 @@
-use Rattle.blob_laws.specs.Blobs.{descriptors_of}
+use Rattle.call_laws.specs.Blobs.{descriptors_of}
 use Rattle.live_host.specs.Wire.{wire}
 use Rattle.live_blobs.proofs.Ending.{told_ends}
 use Rattle.live_blobs.proofs.live.converse.Goals as goal

@@ -1,5 +1,5 @@
 use Rattle.std.proofs.Common.{refl}
-use Rattle.blob_laws.specs.Blobs.{descriptors_of, range_of}
+use Rattle.call_laws.specs.Blobs.{descriptors_of, range_of}
 use Rattle.engine_terms.specs.Contexts.{within}
 use Rattle.live_host.specs.Wire.{wire}
 use Rattle.live_blobs.proofs.Calls.{pulled, received}

@@ -1,5 +1,5 @@
 use Rattle.std.proofs.Common.{◌-◌}
-use Rattle.blob_laws.specs.Blobs.{descriptors_of}
+use Rattle.call_laws.specs.Blobs.{descriptors_of}
 use Rattle.live_host.specs.Wire.{wire}
 use Rattle.live_check.proofs.InTurn.{SoFar}
 use Rattle.live_check.proofs.blobs.first_fallen.Given as goal

@@ -1,4 +1,4 @@
-use Rattle.sig_services.proofs.Exits.{refused, and_then, said, passed_on}
+use Rattle.oci_protocol.proofs.Exits.{refused, and_then, said, passed_on}
 use Rattle.sig_services.specs.Call.{call}
 use Rattle.sig_services.proofs.call.call.Goals as goal
 

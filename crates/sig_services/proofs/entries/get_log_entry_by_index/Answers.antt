@@ -4,7 +4,7 @@ use Rattle.service_models.specs.LogEntry.{log_entry_of}
 use Rattle.sig_services.specs.Entries.{index_path}
 use Rattle.oci_transport.specs.declared.message.Method.TheVariants.{Get}
 use Rattle.sig_services.specs.Entities.{by_index_error}
-use Rattle.sig_services.proofs.Exits.{wanting}
+use Rattle.oci_protocol.proofs.Exits.{wanting}
 use Rattle.sig_services.proofs.CallCauses.{caused}
 use Rattle.sig_services.proofs.entries.get_log_entry_by_index.Goals as goal
 

@@ -5,7 +5,7 @@ use Rattle.oci_transport.specs.declared.message.Method.TheVariants.{Post}
 use Rattle.sig_services.specs.Entities.{search_log_error}
 use Rattle.sig_services.specs.Error.{is_memory}
 use Rattle.sig_services.specs.declared.error.Error.TheVariants.{WantOfMemory}
-use Rattle.sig_services.proofs.Exits.{wanting, wanted}
+use Rattle.oci_protocol.proofs.Exits.{wanting, wanted}
 use Rattle.sig_services.proofs.CallCauses.{caused}
 use Rattle.sig_services.proofs.entries.search_log_query.Goals as goal
 

@@ -3,7 +3,7 @@ use Rattle.json_tables.specs.Plain.{read_plain}
 use Rattle.json_tables.specs.Reading.{list_of, text_of}
 use Rattle.oci_transport.specs.declared.message.Method.TheVariants.{Post}
 use Rattle.sig_services.specs.Entities.{search_index_error}
-use Rattle.sig_services.proofs.Exits.{wanting}
+use Rattle.oci_protocol.proofs.Exits.{wanting}
 use Rattle.sig_services.proofs.CallCauses.{caused}
 use Rattle.sig_services.proofs.index.search_index.Goals as goal
 

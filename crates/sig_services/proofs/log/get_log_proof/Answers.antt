@@ -3,7 +3,7 @@ use Rattle.sig_services.specs.Body.{json_body}
 use Rattle.sig_services.specs.Log.{proof_path}
 use Rattle.oci_transport.specs.declared.message.Method.TheVariants.{Get}
 use Rattle.sig_services.specs.Entities.{log_proof_error}
-use Rattle.sig_services.proofs.Exits.{wanting}
+use Rattle.oci_protocol.proofs.Exits.{wanting}
 use Rattle.sig_services.proofs.CallCauses.{caused}
 use Rattle.sig_services.proofs.log.get_log_proof.Goals as goal
 

@@ -1,4 +1,4 @@
-use Rattle.cosign_shelves.proofs.RightShelf.{small_valid}
+use Rattle.cosign_laws.proofs.RightShelf.{small_valid}
 use Rattle.valid_shelves.proofs.laws.small_shelves_are_valid.Goals as goal
 
 pub returns : goal.returns

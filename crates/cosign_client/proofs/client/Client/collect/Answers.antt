@@ -6,8 +6,8 @@ use Rattle.cosign_layers.specs.Satisfying.{policy_context}
 use Rattle.cosign_rows.specs.Verified.{is_unconstrained}
 use Rattle.cosign_client.specs.State.{client_state, trusts}
 use Rattle.sig_registry.specs.States.{state_of}
-use Rattle.document_laws.proofs.Collected.{collected_is, collected_cause, collected_fault, collected_no_sink, collected_no_memory, collected_faults, collected_confined, collected_plain, collected_settled}
-use Rattle.document_laws.proofs.Sound.{collected_answered}
+use Rattle.cosign_laws.proofs.Collected.{collected_is, collected_cause, collected_fault, collected_no_sink, collected_no_memory, collected_faults, collected_confined, collected_plain, collected_settled}
+use Rattle.cosign_laws.proofs.Sound.{collected_answered}
 use Rattle.cosign_client.proofs.KeptStates.{keeps_only}
 use Rattle.cosign_client.proofs.PolicyFirst.{refused_before, empty_before, collected_empty}
 use Rattle.cosign_client.proofs.client.Client.collect.Goals as goal

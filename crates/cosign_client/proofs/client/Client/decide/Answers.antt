@@ -6,9 +6,9 @@ use Rattle.cosign_layers.specs.Satisfying.{policy_context}
 use Rattle.cosign_rows.specs.Verified.{is_unconstrained}
 use Rattle.cosign_client.specs.State.{client_state, trusts}
 use Rattle.sig_registry.specs.States.{state_of}
-use Rattle.document_laws.proofs.Decided.{decided_hold, decided_over, decided_cause, decided_confined}
-use Rattle.document_laws.proofs.DecidedFaults.{decided_fault, decided_no_sink}
-use Rattle.document_laws.proofs.DecidedKeeps.{decided_plain}
+use Rattle.cosign_laws.proofs.Decided.{decided_hold, decided_over, decided_cause, decided_confined}
+use Rattle.cosign_laws.proofs.DecidedFaults.{decided_fault, decided_no_sink}
+use Rattle.cosign_laws.proofs.DecidedKeeps.{decided_plain}
 use Rattle.cosign_client.proofs.KeptStates.{keeps_only}
 use Rattle.cosign_client.proofs.PolicyFirst.{refused_before, empty_before, decided_empty}
 use Rattle.cosign_client.proofs.client.Client.decide.Goals as goal

@@ -7,11 +7,11 @@ use Rattle.cosign_rows.specs.Verified.{is_unconstrained}
 use Rattle.cosign_client.specs.State.{client_state, trusts}
 use Rattle.sig_registry.specs.States.{state_of}
 use Rattle.cosign_laws.proofs.ShelfPulls.{valid_wide}
-use Rattle.document_laws.proofs.Begins.{documents_unread, documents_decided}
-use Rattle.document_laws.proofs.Causes.{documents_cause}
-use Rattle.document_laws.proofs.Pulls.{documents_fault, documents_no_sink, documents_no_memory, documents_faults, documents_confined, documents_plain, documents_completed, documents_settled}
-use Rattle.document_laws.proofs.Same.{same_as_pull}
-use Rattle.document_laws.proofs.Sound.{documents_hold, documents_backed}
+use Rattle.cosign_laws.proofs.Begins.{documents_unread, documents_decided}
+use Rattle.cosign_laws.proofs.DocumentCauses.{documents_cause}
+use Rattle.cosign_laws.proofs.Pulls.{documents_fault, documents_no_sink, documents_no_memory, documents_faults, documents_confined, documents_plain, documents_completed, documents_settled}
+use Rattle.cosign_laws.proofs.Same.{same_as_pull}
+use Rattle.cosign_laws.proofs.Sound.{documents_hold, documents_backed}
 use Rattle.cosign_client.proofs.KeptStates.{keeps_only}
 use Rattle.cosign_client.proofs.PolicyFirst.{refused_before, empty_before, documents_empty}
 use Rattle.cosign_client.proofs.client.Client.verified_documents.Goals as goal

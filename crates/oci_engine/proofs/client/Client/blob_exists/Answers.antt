@@ -1,5 +1,5 @@
 use Rattle.engine_terms.specs.Contexts.{within}
-use Rattle.listing_laws.proofs.ExistenceLaws.{exists_confined, exists_answered, exists_reason, exists_fault, exists_no_url, exists_bad}
+use Rattle.call_laws.proofs.ExistenceLaws.{exists_confined, exists_answered, exists_reason, exists_fault, exists_no_url, exists_bad}
 use Rattle.oci_engine.proofs.client.Client.blob_exists.Goals as goal
 
 pub returns-clause-confined : goal.returns-clause-confined

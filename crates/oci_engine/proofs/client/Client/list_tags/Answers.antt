@@ -1,8 +1,8 @@
 use Rattle.std.specs.Prelude.{option_copied}
 use Rattle.oci_docs.specs.Tags.{tag_response_of}
 use Rattle.engine_terms.specs.Contexts.{within}
-use Rattle.engine_listings.specs.Listings.{tags_text}
-use Rattle.listing_laws.proofs.ListLaws.{list_confined, list_answered, list_reason, list_fault, list_no_url, list_bad}
+use Rattle.engine_pull.specs.Listings.{tags_text}
+use Rattle.call_laws.proofs.ListLaws.{list_confined, list_answered, list_reason, list_fault, list_no_url, list_bad}
 use Rattle.oci_engine.proofs.client.Client.list_tags.Goals as goal
 
 pub returns-clause-confined : goal.returns-clause-confined

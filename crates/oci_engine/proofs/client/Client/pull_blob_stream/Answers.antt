@@ -1,6 +1,6 @@
 use Rattle.engine_terms.specs.Contexts.{within}
-use Rattle.stream_laws.proofs.StreamCalls.{stream_confined, stream_reason, stream_fault}
-use Rattle.stream_laws.proofs.StreamRefusalLaws.{stream_no_url, stream_bad}
+use Rattle.call_laws.proofs.StreamCalls.{stream_confined, stream_reason, stream_fault}
+use Rattle.call_laws.proofs.StreamRefusalLaws.{stream_no_url, stream_bad}
 use Rattle.oci_engine.proofs.client.Client.pull_blob_stream.Goals as goal
 
 pub returns-clause-confined : goal.returns-clause-confined

@@ -1,6 +1,6 @@
 use Rattle.engine_terms.specs.Contexts.{within}
-use Rattle.stream_laws.proofs.StreamCalls.{partial_confined, partial_reason, partial_fault}
-use Rattle.stream_laws.proofs.StreamRefusalLaws.{partial_past, partial_no_url, partial_bad}
+use Rattle.call_laws.proofs.StreamCalls.{partial_confined, partial_reason, partial_fault}
+use Rattle.call_laws.proofs.StreamRefusalLaws.{partial_past, partial_no_url, partial_bad}
 use Rattle.oci_engine.proofs.client.Client.pull_blob_stream_partial.Goals as goal
 
 pub returns-clause-confined : goal.returns-clause-confined

@@ -1,5 +1,6 @@
 use Rattle.std.proofs.Common.{◌∙◌}
-use Rattle.engine_rows.proofs.Exits.{wanting, passed_on}
+use Rattle.oci_protocol.proofs.Exits.{passed_on}
+use Rattle.engine_rows.proofs.Exits.{wanting}
 use Rattle.engine_laws.proofs.CallCauses.{listed_reason, raw_fault}
 use Rattle.engine_laws.proofs.CallResults.{raw_body, raw_named, raw_given}
 use Rattle.request_laws.proofs.ExactRefusals.{raw_url, raw_bad, met_only, met_early, listed_met}

@@ -1,8 +1,8 @@
 use Rattle.engine_terms.specs.Contexts.{within}
 use Rattle.request_laws.proofs.ExactRefusals.{met_only, met_early}
-use Rattle.publish_laws.proofs.EarlyPublishes.{image_url, image_bad}
-use Rattle.publish_laws.proofs.PublishedCalls.{image_reason, image_fault, image_confined}
-use Rattle.publish_laws.proofs.SentImages.{image_sends}
+use Rattle.push_laws.proofs.EarlyPublishes.{image_url, image_bad}
+use Rattle.push_laws.proofs.PublishedCalls.{image_reason, image_fault, image_confined}
+use Rattle.push_laws.proofs.SentImages.{image_sends}
 use Rattle.oci_engine.proofs.client.Client.push.Goals as goal
 
 pub returns-clause-confined : goal.returns-clause-confined

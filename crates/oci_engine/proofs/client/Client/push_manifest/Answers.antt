@@ -1,8 +1,8 @@
 use Rattle.engine_terms.specs.Contexts.{within}
 use Rattle.request_laws.proofs.ExactRefusals.{met_only, met_early}
-use Rattle.publish_laws.proofs.EarlyPublishes.{raw_url, raw_bad}
-use Rattle.publish_laws.proofs.PublishedCalls.{raw_reason, raw_fault, raw_confined}
-use Rattle.publish_laws.proofs.SentDocuments.{raw_sends, raw_named}
+use Rattle.push_laws.proofs.EarlyPublishes.{raw_url, raw_bad}
+use Rattle.push_laws.proofs.PublishedCalls.{raw_reason, raw_fault, raw_confined}
+use Rattle.push_laws.proofs.SentDocuments.{raw_sends, raw_named}
 use Rattle.oci_engine.proofs.client.Client.push_manifest.Goals as goal
 
 pub returns-clause-confined : goal.returns-clause-confined

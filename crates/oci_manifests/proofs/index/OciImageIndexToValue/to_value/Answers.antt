@@ -1,7 +1,7 @@
 use Rattle.std.proofs.Common.{refl}
 use Rattle.json_tables.specs.Reading.{text_of, map_of}
 use Rattle.json_tables.proofs.Whole.{list_member, option_member, document_again}
-use Rattle.oci_descriptors.specs.IndexEntry.{entry_of}
+use Rattle.oci_manifests.specs.IndexEntry.{entry_of}
 use Rattle.oci_manifests.specs.Index.{index_of, index_written}
 use Rattle.oci_manifests.proofs.Again.{index_again}
 use Rattle.oci_manifests.proofs.index.OciImageIndexToValue.to_value.Goals as goal

@@ -1,7 +1,7 @@
 use Rattle.std.proofs.Common.{refl}
 use Rattle.json_tables.specs.Reading.{text_of, map_of}
 use Rattle.json_tables.proofs.Whole.{list_member, option_member, document_again}
-use Rattle.oci_descriptors.specs.Descriptor.{descriptor_of}
+use Rattle.oci_manifests.specs.Descriptor.{descriptor_of}
 use Rattle.oci_manifests.specs.Manifest.{manifest_of, manifest_written}
 use Rattle.oci_manifests.proofs.Again.{manifest_again}
 use Rattle.oci_manifests.proofs.manifest.OciImageManifestToValue.to_value.Goals as goal

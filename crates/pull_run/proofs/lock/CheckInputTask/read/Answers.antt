@@ -2,7 +2,7 @@ use Rattle.std.proofs.Common.{◌≡◌, ℕ, List, [], ◌∷◌, None, refl, s
 use Rattle.std.specs.Prelude.{codes}
 use Rattle.serde_json.specs.Data.{Data}
 use Rattle.json_tables.specs.Objects.{only}
-use Rattle.json_members.proofs.Refusals.{plain_refused}
+use Rattle.json_tables.proofs.MemberRefusals.{plain_refused}
 use Rattle.locked_cases.specs.Input.{check_of}
 use Rattle.pull_run.proofs.lock.CheckInputTask.read.Goals as goal
 

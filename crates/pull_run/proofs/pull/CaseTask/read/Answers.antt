@@ -1,7 +1,7 @@
 use Rattle.std.proofs.Common.{◌≡◌, None, refl, sym}
 use Rattle.serde_json.specs.Data.{Data}
 use Rattle.json_tables.specs.Objects.{only}
-use Rattle.json_members.proofs.Refusals.{plain_refused}
+use Rattle.json_tables.proofs.MemberRefusals.{plain_refused}
 use Rattle.recorded_case.specs.Case.{members, case_of}
 use Rattle.pull_run.proofs.pull.CaseTask.read.Goals as goal
 

@@ -2,8 +2,8 @@ use Rattle.std.proofs.Common.{◌≡◌, ℕ, List, [], ◌∷◌, None, refl, s
 use Rattle.std.specs.Prelude.{codes}
 use Rattle.serde_json.specs.Data.{Data}
 use Rattle.json_tables.specs.Objects.{only}
-use Rattle.json_members.proofs.Refusals.{plain_refused}
-use Rattle.reviewed_cases.specs.Input.{review_input_of}
+use Rattle.json_tables.proofs.MemberRefusals.{plain_refused}
+use Rattle.pull_admit.specs.Input.{review_input_of}
 use Rattle.pull_run.proofs.review.ReviewInputTask.read.Goals as goal
 
 abbrev names : List (List ℕ)

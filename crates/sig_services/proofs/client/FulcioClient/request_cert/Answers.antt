@@ -1,7 +1,7 @@
 use Rattle.std.proofs.Common.{refl, Some, None, codes}
 use Rattle.serde_json.specs.Written.{compact_text}
 use Rattle.service_models.specs.CertificateRequest.{request_written, signing_request_written}
-use Rattle.sig_services.proofs.Exits.{refused, and_then, said, passed_on, wanting}
+use Rattle.oci_protocol.proofs.Exits.{refused, and_then, said, passed_on, wanting}
 use Rattle.sig_services.specs.Client.{request_cert, certificate_in}
 use Rattle.service_models.specs.Token.{token_of}
 use Rattle.sig_services.proofs.AuthorityCauses.{certificate_refuses, caused}

@@ -1,4 +1,0 @@
-pub mod BlobTaken
-pub mod BlobsCauses
-pub mod BlobsConfined
-pub mod CutRuns

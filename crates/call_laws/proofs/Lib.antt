@@ -1,0 +1,13 @@
+pub mod BareRequests
+pub mod BlobTaken
+pub mod BlobsCauses
+pub mod BlobsConfined
+pub mod CutRuns
+pub mod ExistenceLaws
+pub mod ListLaws
+pub mod StatusRefusals
+pub mod StreamCalls
+pub mod StreamCauses
+pub mod StreamRanges
+pub mod StreamRefusalLaws
+pub mod StreamSafety

@@ -1,2 +1,0 @@
-pub mod DocumentTests
-pub mod Images

@@ -1,5 +1,0 @@
-use Rattle.cosign_documents.proofs.Images.{chains}
-use Rattle.cosign_documents.proofs.laws.chains_are_documents_with_blobs.Goals as goal
-
-pub returns : goal.returns
-returns g c = λ trust image accepted promise v. chains _ image accepted promise v

@@ -1,4 +1,0 @@
-pub mod BundleParts
-pub mod GatheredParts
-pub mod LayerTexts
-pub mod ReferrerRows

@@ -1,2 +1,0 @@
-pub mod AgainParts
-pub mod Exits

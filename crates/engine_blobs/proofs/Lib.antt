@@ -1,4 +1,0 @@
-pub mod AttemptSteps
-pub mod Layers
-pub mod NoSink
-pub mod PlacesInTurn

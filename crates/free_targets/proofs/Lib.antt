@@ -1,2 +1,0 @@
-pub mod AskedTags
-pub mod BothTags

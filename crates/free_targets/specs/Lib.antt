@@ -1,4 +1,0 @@
-pub mod FreeTargets
-pub mod Prints
-pub mod Steps
-pub mod Taken

@@ -1,6 +1,0 @@
-use Rattle.generated_image.specs.Texts.{signatures_text}
-use Rattle.generated_image.proofs.texts.signatures_text.Goals as goal
-
-pub returns : goal.returns
-unfolding signatures_text
-returns c = rw (c.as_slice.ensures, c.in_ok-push.ensures.ok, c.new-layers.ensures, c.in_ok-layer.ensures, c.as_str.ensures, c.in_ok-digest.ensures, c.as_bytes.ensures.value) at c.plain_manifest.ensures

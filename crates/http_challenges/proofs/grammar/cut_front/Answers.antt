@@ -1,8 +1,0 @@
-use Rattle.std.proofs.Common.{ap, ◌∙◌}
-use Rattle.std.specs.List.{prefix_len}
-use Rattle.http_challenges.specs.Classes.{has}
-use Rattle.http_challenges.proofs.Fronts.{class_cuts}
-use Rattle.http_challenges.proofs.grammar.cut_front.Goals as goal
-
-pub split_at-requires : goal.split_at-requires
-split_at-requires c = class_cuts c.args.class c.args.text.now c.utf8.text c.front_len.result (c.front_len.ensures ∙ ap (prefix_len (has c.args.class)) c.as_bytes.ensures.value)

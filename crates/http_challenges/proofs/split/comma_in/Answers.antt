@@ -1,5 +1,0 @@
-use Rattle.http_challenges.proofs.Commas.{split_begins}
-use Rattle.http_challenges.proofs.split.comma_in.Goals as goal
-
-pub loop-at-init : goal.loop-at-init
-loop-at-init c = split_begins c.args.bytes.now

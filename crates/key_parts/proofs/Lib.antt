@@ -1,0 +1,2 @@
+mod Base64InJson
+mod ReadBack

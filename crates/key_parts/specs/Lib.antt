@@ -1,0 +1,11 @@
+pub mod Constants
+pub mod Decrypt
+pub mod Encrypt
+pub mod Envelope
+pub mod EnvelopeError
+pub mod Error
+pub mod KeyPair
+pub mod Outcomes
+pub mod Scheme
+pub mod Scrypt
+pub mod Shown

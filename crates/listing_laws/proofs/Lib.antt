@@ -1,4 +1,0 @@
-pub mod BareRequests
-pub mod ExistenceLaws
-pub mod ListLaws
-pub mod StatusRefusals

@@ -1,0 +1,6 @@
+use Rattle.std.proofs.Common.{Ok}
+use Rattle.live_blobs.proofs.CarryEnding.{host_tells}
+use Rattle.live_blobs.proofs.carry_delivery.deliver_carried.Goals as goal
+
+pub returns-in-Err : goal.returns-in-Err
+returns-in-Err g c = rw c.from.ensures (host_tells c.args.digest.now (Ok c.args.pushed) c.in-Err.error _ _ c.in-Err.ensures.cause)

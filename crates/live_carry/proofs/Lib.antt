@@ -1,5 +1,0 @@
-pub mod Ending
-pub mod Made
-pub mod Ready
-pub mod SentBytes
-pub mod Taken

@@ -1,6 +1,0 @@
-use Rattle.std.proofs.Common.{Ok}
-use Rattle.live_carry.proofs.Ending.{host_tells}
-use Rattle.live_carry.proofs.delivery.deliver_carried.Goals as goal
-
-pub returns-in-Err : goal.returns-in-Err
-returns-in-Err g c = rw c.from.ensures (host_tells c.args.digest.now (Ok c.args.pushed) c.in-Err.error _ _ c.in-Err.ensures.cause)

@@ -1,6 +1,0 @@
-use Rattle.std.proofs.Common.{Err}
-use Rattle.live_carry.proofs.Ending.{host_tells}
-use Rattle.live_carry.proofs.delivery.deliver_error.Goals as goal
-
-pub returns-in-Err : goal.returns-in-Err
-returns-in-Err g c = rw c.from.ensures (host_tells c.args.digest.now (Err c.args.error.now) c.in-Err.error _ _ c.in-Err.ensures.cause)

@@ -1,9 +1,0 @@
-pub mod Bounds
-pub mod CourseParts
-pub mod Ending
-pub mod Grows
-pub mod Justifies
-pub mod Keeping
-pub mod Logs
-pub mod RowsSame
-pub mod Transfers

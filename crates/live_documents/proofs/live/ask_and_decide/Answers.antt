@@ -1,7 +1,0 @@
-use Rattle.cosign_client.specs.State.{client_state}
-use Rattle.live_documents.proofs.CourseParts.{asked_decides}
-use Rattle.live_documents.proofs.live.ask_and_decide.Goals as goal
-
-pub returns-in-Ok-clause-decided : goal.returns-in-Ok-clause-decided
-returns-in-Ok-clause-decided g c =
-    asked_decides _ c.args.terms.now c.args.client.now.rekor_pub_keys (client_state c.args.client.now).settings c.in-Ok.answers c.args.found _ _ _ _ _ c.finish.result.outcome (rw c.in-Ok.is at c.ask_layers-asked.ensures.asked) c.finish.ensures.decided

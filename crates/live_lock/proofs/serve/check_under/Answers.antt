@@ -1,4 +1,0 @@
-use Rattle.live_lock.proofs.serve.check_under.Goals as goal
-
-pub returns : goal.returns
-returns g c = rw c.promise_of-promise.ensures at c.check_lock.ensures

@@ -1,8 +1,0 @@
-use Rattle.std.proofs.Common.{inl, inr}
-use Rattle.live_words.proofs.whole.run.Goals as goal
-
-pub returns-in-Ok : goal.returns-in-Ok
-returns-in-Ok g c = record { status = inl (c.in-Ok.first, _, c.in-Ok.ensures.begun, c.serve_first.ensures) }
-
-pub returns-in-Err : goal.returns-in-Err
-returns-in-Err g c = record { status = rw c.end_with.ensures (inr c.in-Err.ensures.cause) }

@@ -1,9 +1,0 @@
-pub mod Again
-pub mod Back
-pub mod Bridge
-pub mod Calendar
-pub mod Joins
-pub mod Parts
-pub mod Range
-pub mod Shares
-pub mod Texts

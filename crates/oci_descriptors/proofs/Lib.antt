@@ -1,2 +1,0 @@
-pub mod ExactPicks
-pub mod MembersAgain

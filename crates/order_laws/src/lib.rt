@@ -1,9 +1,0 @@
-//! States in which order the requests of a pushed image go out, for every run. It has no other code.
-#![tactic(auto)]
-
-ghost use Rattle.order_laws.specs.Order.{ManifestsComeLast};
-
-/// States that no manifest of a pushed image is requested unless each of its blobs was answered.
-pub fn manifests_come_last()
-    ensures { ManifestsComeLast }
-{}

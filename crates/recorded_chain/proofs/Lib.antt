@@ -1,3 +1,0 @@
-pub mod BuiltImages
-pub mod ChainHolds
-pub mod Ready

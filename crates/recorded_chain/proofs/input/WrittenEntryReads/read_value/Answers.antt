@@ -1,8 +1,0 @@
-use Rattle.json_tables.proofs.Refusals.{passed_on, behind}
-use Rattle.recorded_chain.specs.Input.{entry_of}
-use Rattle.recorded_chain.proofs.input.WrittenEntryReads.read_value.Goals as goal
-
-pub returns-in_err-digest : goal.returns-in_err-digest
-unfolding entry_of
-returns-in_err-digest c =
-    passed_on _ _ _ (behind _ _ c.in_ok-only.ensures (c.in_err-digest.ensures.refused _)) c.from_residual-in_err-digest.ensures

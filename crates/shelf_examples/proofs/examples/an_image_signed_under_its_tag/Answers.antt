@@ -1,5 +1,0 @@
-use Rattle.shelf_examples.proofs.Signed.{by_tag}
-use Rattle.shelf_examples.proofs.examples.an_image_signed_under_its_tag.Goals as goal
-
-pub returns : goal.returns
-returns c = by_tag

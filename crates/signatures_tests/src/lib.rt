@@ -1,7 +1,0 @@
-//! Tests of the push of signatures.
-#![tactic(auto)]
-
-#[cfg(test)]
-mod layers;
-#[cfg(test)]
-mod pushes;
