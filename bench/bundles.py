@@ -1,8 +1,8 @@
 #!/usr/bin/env python3
 """Measures how long a bundle of 32 MB takes to be read, and what it holds, as ratios within one run.
 
-Memory is told in bytes held at once for each byte of the bundle, the bundle itself among them, and time as the growth, both from
-a quarter of its size, divided by 4. Both sizes hold more than the process that measures, below which nothing is told.
+Memory is reported in bytes held at once for each byte of the bundle, the bundle itself among them, and time as the growth, both from
+a quarter of its size, divided by 4. Both sizes hold more than the process that measures, below which nothing can be measured.
 """
 import base64
 import json

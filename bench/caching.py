@@ -1,8 +1,8 @@
 #!/usr/bin/env python3
-"""Measures what kept answers save, as ratios within one run.
+"""Measures what cached responses save, as ratios within one run.
 
 One image, with a manifest of signatures that has many layers, is pulled at 1000 moments of one minute from a registry in
-memory. What each later pull takes is told in the first one's time: by a client that keeps answers and by one that does not.
+memory. What each later pull takes is reported in multiples of the first one's time, for a client that caches and for one that does not.
 """
 import json
 import sys

@@ -1,10 +1,10 @@
 #!/usr/bin/env python3
 """Measures `canon` on generated JSON that is deep, wide or full of strings, each by itself.
 
-Time is that of the processor. It is told as a ratio to a program that reads the same text by the kit's `serde_json` and
+Time is that of the processor. It is reported as a ratio to a program that reads the same text by the kit's `serde_json` and
 prints it in the same run, and as the growth from an eighth of the text to the whole, divided by 8. If the environment
-variable `PEER` names the program of bench/peer, it is told as a ratio to that too. A last line tells what nesting costs:
-the same long text inside many objects, in times of it inside one.
+variable `PEER` names the program of bench/peer, it is compared with that too. The last line says what nesting costs:
+the same long text inside many objects, in multiples of it inside one.
 """
 import json
 import os
@@ -34,7 +34,7 @@ def wide(place):
 
 
 def strings(place):
-    """A long text with escapes and letters past ASCII."""
+    """A long text with escapes and letters that are not ASCII."""
     return json.dumps(("letter \u00e4 \U0001f600 \n " + str(place)) * 40, ensure_ascii=False)
 
 

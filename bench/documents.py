@@ -1,7 +1,7 @@
 #!/usr/bin/env python3
 """Measures how long a manifest of many layers takes to be read and written back by its table.
 
-Time is told in runs of the same program that reads and prints it as plain JSON, within one run, and as the growth to eight
+Time is reported in runs of the same program that reads and prints it as plain JSON, within one run, and as the growth to eight
 times the layers, divided by 8.
 """
 import json

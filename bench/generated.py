@@ -19,7 +19,7 @@ def layers():
 
 
 def pulled(count):
-    """The time and the memory of a pull of so many layers."""
+    """The time and the memory of a pull of `count` layers."""
     time, memory, written = measured([PROGRAM, "gen", str(count)], os.devnull)
     lines = written.decode().split("\n")
     if lines[:2] != [f"requests {19 + 2 * count}", f"layers {count}"] or not lines[2].startswith("ok sha256:"):

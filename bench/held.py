@@ -1,9 +1,9 @@
 #!/usr/bin/env python3
-"""Runs a program once, and tells how much time of the processor it took and how much memory it held.
+"""Runs a program once, and reports how much time of the processor it took and how much memory it held.
 
-    held.py STDIN WORD ..      what the program writes goes out; the last line on standard error is `SECONDS BYTES STATUS`
+    held.py STDIN WORD ..      what the program writes is passed on; the last line on standard error is `SECONDS BYTES STATUS`
 
-It stands alone so that it is small: the memory that a process is said to have held is at least what its parent held when it was made.
+It is a program of its own so that it is small: the memory that a process is said to have held is at least what its parent held when it was made.
 """
 import os
 import subprocess

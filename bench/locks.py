@@ -1,5 +1,5 @@
 #!/usr/bin/env python3
-"""Measures the check of a lock file of 1000 entries: in times of `canon` over the same bytes, in ten checks of 100, and the bytes held for each byte."""
+"""Measures the check of a lock file of 1000 entries: in multiples of `canon` over the same bytes, in ten checks of 100, and the bytes held for each byte."""
 import json
 import os
 import sys
@@ -14,7 +14,7 @@ ENTRIES = 1000
 
 
 def locks(count):
-    """A check of so many entries, each of another image with the same documents, and the lock file."""
+    """A check of `count` entries, each of another image with the same documents, and the lock file."""
     with open(INPUT) as file:
         given = json.load(file)
     lock = json.loads(given["lock"])
@@ -42,7 +42,7 @@ def figures():
     canon, _ = timed("canon", text, b"{")
     yield Figure(f"the check of a lock file of {ENTRIES} entries", check / canon, "canon over it", 4)
     yield Figure("the same", check / parts, f"ten checks of {ENTRIES // 10}", 1.2)
-    # Both hold more than the process that measures, below which nothing is told.
+    # Both hold more than the process that measures, below which nothing can be measured.
     long, short = locks(4 * ENTRIES)[0], locks(2 * ENTRIES)[0]
     held = timed("lockcheck", long, b"lock holds")[1] - timed("lockcheck", short, b"lock holds")[1]
     yield Figure("its memory", held / (len(long) - len(short)), "bytes held for each byte of the input", 5)

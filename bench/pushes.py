@@ -1,7 +1,7 @@
 #!/usr/bin/env python3
 """Measures pushes to a registry that keeps nothing, and lists of tags.
 
-A blob of 256 MiB: its push in times of copying its pieces once, and the bytes held beside what a push of 4 MiB holds.
+A blob of 256 MiB: its push in multiples of copying its pieces once, and the bytes held beside what a push of 4 MiB holds.
 An image of 1000 layers: in ten pushes of one of 100. A list of 100000 tags: in ten lists of 10000, and the bytes held
 for each of its bytes.
 """
@@ -17,7 +17,7 @@ TAG = len('"1.22.333-slim",')
 
 
 def timed(*words):
-    """The time and the memory of each of these words, each with so many."""
+    """The time and the memory of each of these words with its count."""
     ways = [[PROGRAM, word, str(count)] for word, count in words]
     return [(time, memory) for time, memory, _ in in_turns(ways, os.devnull)]
 

@@ -2,7 +2,7 @@
 """Measures how the search grows with the referrers of an image, as a ratio within one run.
 
 A registry in memory lists 100 and then 1000 referrers of one bundle each. The time of the
-longer list is told in ten times that of the shorter: 1.0 is linear growth.
+longer list is reported in multiples of ten times that of the shorter: 1.0 is linear growth.
 """
 import json
 import sys
@@ -15,7 +15,7 @@ SHORT, LONG = 100, 1000
 
 
 def bundles_of(make, count):
-    """Bundles that sign the same statement, and differ in a member that no reader looks at."""
+    """Bundles that sign the same statement, and differ in a member that no reader inspects."""
     first, signed = make.bundle(make.digest(make.IMAGE))
     return [json.dumps(dict(json.loads(first), number=number)) for number in range(count)], signed
 

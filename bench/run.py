@@ -1,7 +1,7 @@
 #!/usr/bin/env python3
 """Measures the program on an image with a large layer, as ratios within one run.
 
-Time is told in runs of `sha256sum` over the same bytes, and memory in bytes held at once for each byte of the case.
+Time is reported in runs of `sha256sum` over the same bytes, and memory in bytes held at once for each byte of the case.
 """
 import importlib.util
 import os

@@ -2,7 +2,7 @@
 """Measures how the search grows with the layers of a signature manifest, as a ratio within one run.
 
 A manifest has 100 and then 1000 signature layers of four kilobytes each, of which the last one alone satisfies the policy.
-The time of the longer one is told in ten times that of the shorter: 1.0 is linear growth. Each layer has a signature of its
+The time of the longer one is reported in multiples of ten times that of the shorter: 1.0 is linear growth. Each layer has a signature of its
 own: the table of a case hashes a message once for each row that has its key and its signature.
 """
 import sys

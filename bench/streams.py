@@ -12,7 +12,7 @@ PROGRAM = os.path.join(HERE, "../crates/timed_calls/out/timed_calls")
 
 
 def timed(count, *words):
-    """The time and the memory of each of these words over so many MiB."""
+    """The time and the memory of each of these words over `count` MiB."""
     digest = hashlib.sha256()
     for _ in range(count):
         digest.update(b"a" * (1 << 20))
