@@ -1,4 +1,4 @@
-"""An admission webhook of Kubernetes over HTTPS: cores read reviews, decide them side by side, and write the responses, which go out as they are."""
+"""An admission webhook of Kubernetes over HTTPS: cores read reviews, decide them side by side, and write the responses, which are sent unchanged."""
 import asyncio
 import contextlib
 import json
@@ -19,7 +19,7 @@ from host.terminal import printable
 
 VERSION, LONGEST, LINE, REVIEWS = "admission.k8s.io/v1", 1 << 20, 1 << 20, 1 << 32
 LATE = "not decided in time"
-# a response, "" if the text is no review, and the images that a rule covers
+# a response, "" if the text is not a review, and the images that a rule covers
 Decided = tuple[str, list[str]]
 
 
@@ -41,7 +41,7 @@ class Decider:
         self.core.write(admit | {"frame": "admit", "reviews": REVIEWS})
 
     def decide(self, line: bytes, end: float) -> Decided:
-        """What the core answers the review in a frame with. ValueError or OSError if it broke."""
+        """What the core replies to the review in a frame. ValueError or OSError if it broke."""
         core, images = self.core, list[str]()
         core.input.write(line)
         core.input.flush()
@@ -74,7 +74,7 @@ class Deciders:
         decider: Decider = self.own.decider
         try:
             return decider.decide(line, end)
-        except Exception:  # whatever was not foreseen is no yes
+        except Exception:  # whatever was not foreseen allows nothing
             decider.core.process.kill()
             del self.own.decider
             raise
@@ -111,7 +111,7 @@ def logged(text: str, response: str, images: list[str], milliseconds: int) -> st
 
 
 class Webhook:
-    """Reviews, decided side by side by so many cores."""
+    """Reviews, decided side by side by `jobs` cores."""
 
     def __init__(self, decide: Callable[[bytes, float], Decided], jobs: int, seconds: float) -> None:
         self.decide, self.seconds, self.pool = decide, seconds, ThreadPoolExecutor(jobs)

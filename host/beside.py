@@ -24,7 +24,7 @@ def side_by_side(tasks: Iterable[Task], begin: Begin[Task, Outcome], count: int 
     from multiprocessing import connection, get_context  # which take a while, and only this needs
     context, waiting, processes, ways, done = get_context("fork"), iter(tasks), [], dict["Connection", Task](), False
     try:
-        gc.freeze()  # so that the processes share the memory of what is there
+        gc.freeze()  # so that the processes share the memory of what is loaded
         with uninterrupted():  # until a process has its own way of ending
             for task in itertools.islice(waiting, count):
                 ours, theirs = context.Pipe()

@@ -28,7 +28,7 @@ Refused = tuple[Frame, Answered]  # the last frame of a core, and who was asked
 
 
 def parsed(content: bytes) -> dict[str, Any]:
-    """A manifest as the member of a frame; ValueError if a number in it is no integer, which frames do not have, or if it is too long for a line."""
+    """A manifest as the member of a frame; ValueError if a number in it is not an integer, which frames do not have, or if it is too long for a line."""
     manifest: dict[str, Any] = json.loads(content, parse_float=int)
     if len(json.dumps(manifest)) > WRITTEN * 7 // 8:
         raise ValueError("the manifest is longer than a line")

@@ -21,7 +21,7 @@ def is_carried(blob: Frame) -> bool:
 
 
 class Passed(Received):
-    """What cores ask the source for one blob. Its bytes are passed on, and kept nowhere. If a connection breaks off, another one goes on from there, for the same core."""
+    """What cores ask the source for one blob. Its bytes are passed on, and kept nowhere. If a connection is lost, another one goes on from there, for the same core."""
 
     def __init__(self, registry: Registry, blob: Frame) -> None:
         super().__init__(registry, None, {blob["digest"]: max(0, blob["size"])}, "")

@@ -243,7 +243,7 @@ def counted(entries: Sized) -> str:
 
 
 def hold() -> None:
-    """From here on no signal stops the command, so that what is said of its end stays true."""
+    """From here on no signal stops the command, so that the sentence about its end stays true."""
     for number in SIGNALS:
         signal.signal(number, signal.SIG_IGN)
 

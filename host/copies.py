@@ -60,7 +60,7 @@ class Sides:
 
 
 class Copy:
-    """One copy; with `--all` also of each image of its index, all of which are there before the index is."""
+    """One copy; with `--all` also of each image of its index, all of which the target has before the index."""
 
     def __init__(self, option: argparse.Namespace, rule: Rule, settings: Frame, target: Frame, sides: Sides) -> None:
         self.option, self.rule, self.settings, self.target, self.sides = option, rule, settings, target, sides
@@ -100,7 +100,7 @@ class Copy:
         return refused[0] if refused else (end, sides)
 
     def carried(self, settings: Frame, sent: Sent, tag: bool) -> Refused | None:
-        """Carries the blobs of the documents that the core has decided, and before them, if all are asked for, copies the other images of the index."""
+        """Carries the blobs of the documents that the core has decided, and before them, if all are to be copied, copies the other images of the index."""
         documents, kinds = {frame["kind"]: content for frame, content in sent if frame["frame"] == "document"}, kinds_of(sent)
         if tag and self.option.all and "index" in documents:
             entries = dict.fromkeys(entry["digest"] for entry in json.loads(documents["index"])["manifests"])

@@ -49,7 +49,7 @@ def entered(entry: dict[str, Any], name: str) -> Any:
 
 
 def credentials(repository: str, authfile: Path | None) -> Any:
-    """The `auth` of the settings for a repository, whose registry stands first in it: those of the longest name in the first file that has any."""
+    """The `auth` of the settings for a repository, whose first part is its registry: those of the longest name in the first file that has any."""
     registry, *path = repository.split("/")
     hosts = HUB if registry in HUB else (registry,)
     names = ["/".join((host, *path[:count])) for count in range(len(path), 0, -1) for host in hosts]

@@ -119,7 +119,7 @@ class Layout:
                 path.rmdir()
 
     def find(self, digest: str) -> Path | None:
-        """The file of a blob that is there already, if its bytes have this digest."""
+        """The file of a blob that exists already, if its bytes have this digest."""
         for path in (folder / blob_name(digest) for folder in (self.work, self.home) if folder):
             if path.is_file():
                 with open(path, "rb") as file:
@@ -128,7 +128,7 @@ class Layout:
         return None
 
     def create(self, name: str) -> BinaryIO:
-        """A file to write. A blob may be broken off: whether it has its digest `find` sees, and it stays only if it is added."""
+        """A file to write. A blob may be truncated: `find` sees whether it has its digest, and it stays only if it is added."""
         (self.work / name).parent.mkdir(parents=True, exist_ok=True)
         return open(self.work / name, "wb")
 
@@ -141,7 +141,7 @@ class Layout:
     def keep(self, digests: Iterable[str], mark: str) -> None:
         """Gives blobs their names, since the core has said so of their bytes."""
         for digest in digests:
-            with contextlib.suppress(FileNotFoundError):  # it was there before
+            with contextlib.suppress(FileNotFoundError):  # it existed before
                 self.hidden(digest, mark).rename(self.work / blob_name(digest))
             self.names.add(blob_name(digest))
 
@@ -150,7 +150,7 @@ class Layout:
             file.writelines(pieces)
 
     def add(self, digest: str, pieces: Iterable[bytes]) -> None:
-        """A document or a blob. One that is there already is not written again."""
+        """A document or a blob. One that exists already is not written again."""
         self.names.add(blob_name(digest))
         if not self.find(digest):
             self.put(blob_name(digest), pieces)
@@ -182,7 +182,7 @@ class Layout:
         sync_all([*self.work.rglob("*"), self.work])
 
     def place(self) -> None:
-        """Moves it to its place, the index last, so that it names nothing that is not there."""
+        """Moves it to its place, the index last, so that it names nothing that is missing."""
         if self.home:
             for path in sorted(self.work.rglob("*"), key=lambda path: path.name == "index.json"):
                 if path.is_file():

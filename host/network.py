@@ -165,8 +165,8 @@ class Remembered:
 class Network:
     """The connections of a pull. `statuses` has the last one of each URL (as `shown`), `failure` why a request failed last.
 
-    `timeout` is in seconds, to connect and without data; `end` is by the monotonic clock. A document and the headers of an answer have at most so many
-    bytes; `blob` names the blob that comes next if it may be longer than a document.
+    `timeout` is in seconds, to connect and without data; `end` is by the monotonic clock. A document has at most `document` bytes, the
+    headers of an answer at most `headers`; `blob` names the blob that comes next if it may be longer than a document.
     """
 
     def __init__(self, access: Access, timeout: float = 30, end: float = math.inf, document: int = 4 << 20, headers: int = 64 << 10) -> None:
@@ -298,7 +298,7 @@ class Network:
             self.wait(seconds)
 
     def ahead(self) -> None:
-        """Receives the next piece of a body before it is asked for."""
+        """Receives the next piece of a body before it is requested."""
         if self.curl and not self.answer.held and not self.late:
             try:
                 self.resume(self.curl)
@@ -313,7 +313,7 @@ class Network:
         self.receive()
 
     def more(self) -> tuple[Frame, bytes]:
-        """The next piece of the body, which is to be used before the one after it is asked for."""
+        """The next piece of the body, which is to be used before the one after it is requested."""
         if self.late or not (self.curl or self.answer.is_over):
             raise ValueError(self.late or "the answer was truncated")
         if self.curl:

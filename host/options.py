@@ -38,7 +38,7 @@ def seconds(text: str) -> float:
 
 
 def parser(asked: str = "") -> argparse.ArgumentParser:
-    """With the options of all words, or of the one that is asked for alone, which takes less time."""
+    """With the options of all subcommands, or of `asked` alone, which takes less time."""
     table = tomllib.loads((Path(__file__).parent / "options.toml").read_text())
     made = Parser(prog="roksnaep", description=PURPOSE, epilog=STATUSES)
     made.add_argument("--version", action=Version, nargs=0, help="prints the version, and which core runs")

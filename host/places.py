@@ -86,7 +86,7 @@ class Access:
             raise ValueError("it is not requested, since credentials are sent below /v2/ and to the realm alone")
 
     def proxy_to(self, place: Place) -> str:
-        """The proxy by which a place is reached, or nothing. By the environment this machine is not asked for over a proxy."""
+        """The proxy by which a place is reached, or nothing. The environment's proxy is not used for this machine."""
         if self.proxy or is_loopback(place.host):
             return self.proxy or ""
         from urllib.request import getproxies, proxy_bypass  # which take a while

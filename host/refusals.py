@@ -51,7 +51,7 @@ class Refusals:
         return what.format(*map(shown, kept), failure=self.failure, because=self.failure and f" ({self.failure})"), advice
 
     def unsigned(self, digest: str, lines: list[list[str]]) -> tuple[str, str]:
-        """Why no signature satisfies the policy: of what was found, else of what could not be read, else nothing was there."""
+        """Why no signature satisfies the policy: of what was found, else of what could not be read, else that nothing was found."""
         if count := sum(words[0] == "collected" for words in lines):
             why = f"; the last reason: {self.why}" if self.why else ""
             return f"no signature of {digest} matches the given keys and annotations ({count} found{why})", KEYS

@@ -1,4 +1,4 @@
-"""Answers the core's questions about signatures, under one rule: whether one is valid and logged, and who is behind a certificate."""
+"""Answers the core's questions about signatures, under one rule: whether one is valid and logged, and whom a certificate names."""
 import base64
 import json
 from hashlib import sha256
@@ -30,7 +30,7 @@ def statement_of(message: bytes) -> tuple[bytes, bytes]:
 
 
 class Signatures:
-    """`reply` answers the core's `verify` and `judge` frames; `why` is the last reason against a signature."""
+    """`reply` returns the replies to the core's `verify` and `judge` frames; `why` is the last reason against a signature."""
 
     def __init__(self, rule: Rule) -> None:
         self.rule, self.why, self.signers = rule, "", dict[str, str]()
