@@ -1,7 +1,7 @@
 """Whether a chain holds, decided a second time: from recorded bytes alone, with nothing of the program and in other terms than its own.
 
 Run by itself it decides the recorded cases below tests/rows: each image that is answered there, or is one of an allowed Pod, has a chain that holds,
-and each recorded chain holds or fails as it is recorded. `holds(case, chain)` is what is wrong with a chain as the program's word `check` reads it, or none. `chains(case, lines)` are the chains that a report's
+and each recorded chain holds or fails as it is recorded. `holds(case, chain)` is what is wrong with a chain as the program's subcommand `check` reads it, or none. `chains(case, lines)` are the chains that a report's
 image may have, made of the bodies that the case records.
 """
 import base64

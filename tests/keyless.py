@@ -1,5 +1,5 @@
 #!/usr/bin/python3
-"""A sigstore of one's own for tests: an authority (root and intermediate), a log of certificates, a log of signatures, and what signers get by them.
+"""A sigstore for tests: an authority (root and intermediate), a log of certificates, a log of signatures, and what signers get by them.
 
     tests/keyless.py FOLDER     writes a trusted root there, and the key of the log of signatures
 
@@ -40,7 +40,7 @@ def written(seconds):
 
 
 def canonical(value):
-    """RFC 8785, of what has ASCII texts and whole numbers alone."""
+    """RFC 8785, of values with ASCII strings and integers alone."""
     return json.dumps(value, sort_keys=True, separators=(",", ":"), ensure_ascii=False).encode()
 
 
@@ -118,7 +118,7 @@ class Sigstore:
 
     def certificate(self, subject, issuer=ISSUER, key=None, names=None, start=-60, end=540, purposes=None, key_usage=None, basic=None, more=(),
                     issuers=None, stamps=None, issuer_key=None, issuer_name="intermediate", digest=hashes.SHA384(), **stamp):
-        """A signer's certificate and its private key. `stamps` are the timestamps in it by the part that they sign; none is no extension."""
+        """A signer's certificate and its private key. `stamps` are the timestamps in it by the part that they sign; none leaves the extension out."""
         key = key or ec.generate_private_key(ec.SECP256R1())
         builder = x509.CertificateBuilder().subject_name(x509.Name([])).issuer_name(name(issuer_name)).public_key(key.public_key())
         builder = builder.serial_number(x509.random_serial_number()).not_valid_before(moment(self.now + start)).not_valid_after(moment(self.now + end))
@@ -179,7 +179,7 @@ class Sigstore:
                 "dev.sigstore.cosign/bundle": json.dumps({"SignedEntryTimestamp": b64(promise), "Payload": entry})}
 
     def payload_annotations(self, payload, subject, issuer=ISSUER, at=None, body=None, **wrong):
-        """A payload signed without a key of one's own, as annotations."""
+        """A payload signed without a key, by a certificate, as annotations."""
         key, certificate = self.certificate(subject, issuer, **wrong)
         text = certificate.public_bytes(Encoding.PEM)
         chain = b"".join(one.public_bytes(Encoding.PEM) for one in (self.intermediate, self.root)).decode()

@@ -1,4 +1,4 @@
-"""Cases of `tests/live`: blobs by cores side by side, of large images, that break off and go on, with a real registry."""
+"""Cases of `tests/live`: blobs by cores side by side, of large images, that are cut off and go on, with a real registry."""
 import hashlib
 import json
 import os
@@ -17,7 +17,7 @@ COMMAND, MIB, MOST = TOP / "bin/roksnaep", 1 << 20, 128
 
 
 def large_layout(folder, sizes):
-    """An OCI image layout with layers of so many MiB, none of which is ever held; the descriptors of its manifest and its layers."""
+    """An OCI image layout with layers of these sizes in MiB, none of which is ever held; the descriptors of its manifest and its layers."""
     chance, layers = random.Random(str(sizes)), []
     blobs = folder / "blobs/sha256"
     blobs.mkdir(parents=True)
@@ -50,7 +50,7 @@ def children(process):
 
 
 def runs(process):
-    """Whether it is there, and has not ended (then it waits for its parent)."""
+    """Whether it exists, and has not ended (then it waits for its parent)."""
     path = Path(f"/proc/{process}/stat")
     return path.exists() and path.read_text().rpartition(")")[2].split()[0] != "Z"
 
@@ -81,7 +81,7 @@ def watched(live, words, until=lambda: False):
 
 
 def goes_on(live, name, sizes):
-    """A pull that is killed in the middle; the next one requests only what is not there, both in constant memory."""
+    """A pull that is killed in the middle; the next one requests only what is missing, both in constant memory."""
     _, layers = large_image(live, name, sizes)
     asked, out, whole = [], live.folder / f"{name}-out/image", sum(sizes) * MIB
     words = ["pull", f"{live.place}/{name}:v1", "--key", live.public, "--out", out]
@@ -162,7 +162,7 @@ def refuses_layers_of_another_size(live):
 
 
 def goes_on_after_a_401(live):
-    """As of a token that ended: the blob is asked for once more, and no more often."""
+    """As of a token that ended: the blob is requested once more, and no more often."""
     layers, seen = layers_like(live, "ended"), []
     for count, way in ((2, live.pulls), (2, live.refuses)):
         seen.clear()

@@ -1,5 +1,5 @@
 #!/usr/bin/python3
-"""Pushes a small image by the program `live_pushes` to a real registry on this machine, over a host of its own that opens the connections, and reads back
+"""Pushes a small image by the program `live_pushes` to a real registry on this machine, over a host of its own that opens the connections, and reads
 with skopeo what the registry has then, and the signature that was pushed with `roksnaep verify`.
 
     tests/pushes.py [--program FILE] [--record] [-v] [PART OF A NAME ..]

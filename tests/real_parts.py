@@ -1,5 +1,5 @@
 """Cases of tests/live that have to do with the parts that people have: skopeo, umoci and buildah, identities and logs as sigstore keeps them, TLS with a
-root of one's own, proxies, programs that keep credentials, policy files, archives. Each option of the command has a case here or in tests/live.
+root made for it, proxies, programs that store credentials, policy files, archives. Each option of the command has a case here or in tests/live.
 """
 import base64
 import contextlib
@@ -117,7 +117,7 @@ def cosign(live, *words):
 
 
 def cosign_version(live):
-    """Its version of bundles: 3 signs by bundles among the referrers unless it is told otherwise."""
+    """Its version of bundles: 3 signs by bundles among the referrers by default."""
     if not shutil.which("cosign"):
         raise Skipped("cosign is not installed (Debian has it from version 13 on; that package runs on Debian 12)")
     return 3 if "--use-signing-config" in cosign(live, "sign", "--help").stdout else 2
@@ -359,11 +359,11 @@ def accepts_statements_of_named_types(live):
     return fails(live, 1, kind, "verify", reference, *words)
 
 
-# ---- TLS with a root of one's own, a certificate of the client, proxies
+# ---- TLS with a root made here, a certificate of the client, proxies
 
 
 def certificates(folder, *names):
-    """A root of one's own, and under it a certificate for each name: NAME.pem and NAME.key beside root.pem."""
+    """A new root, and under it a certificate for each name: NAME.pem and NAME.key beside root.pem."""
     folder.mkdir(parents=True, exist_ok=True)
     new = ("-newkey", "ec", "-pkeyopt", "ec_paramgen_curve:prime256v1", "-nodes")
     ran("openssl", "req", "-x509", *new, "-keyout", folder / "root.key", "-out", folder / "root.pem", "-subj", "/CN=a root of one's own", "-days", "2")

@@ -1,4 +1,4 @@
-"""A registry on this machine, what stands before it, and images and signatures to put there: what tests/live is made of."""
+"""A registry on this machine, the servers between it and its clients, and images and signatures to put there: what tests/live is made of."""
 import base64
 import contextlib
 import gzip
@@ -144,7 +144,7 @@ def put_referrers(place, repository, digest, bundles):
     asked(place, "PUT", f"/v2/{repository}/manifests/{digest.replace(':', '-')}", index, {"Content-Type": INDEX})
 
 
-# ---- a registry, and what stands before it
+# ---- a registry, and the servers between it and its clients
 
 
 class Registry:

@@ -14,7 +14,7 @@ NAMED = make.digest(make.IMAGE)
 APP = f"{make.REGISTRY}/app"
 TAG = f"{APP}:{make.TAG}"
 WHOLE = 21
-# The pull of the generated image where nothing answers: the probe's fault is passed over, and the digest refuses the pull.
+# The pull of the generated image if nothing responds: the probe's fault is ignored, and the digest refuses the pull.
 UNANSWERED = [
     "moment 100",
     "GET http://localhost:5000/v2/",

@@ -84,7 +84,7 @@ def written():
     hub = dict(base, reference="alpine", protocol="https", shelf=dict(base["shelf"], repository="library/alpine", tags=dict(base["shelf"]["tags"], latest=digest(IMAGE))))
     lock("a_name_alone", [hub], file_of(locked("docker.io/library/alpine:latest", IMAGE, signature)))
     lock("a_name_alone_behind_a_greater_one", [base, hub], [], 3)
-    # The first image that is refused is told alone, and no later one is pulled.
+    # The first image that is refused is reported alone, and no later one is pulled.
     third = dict(base, reference=f"{REGISTRY}/third:v3", shelf=dict(base["shelf"], repository="third"))
     unsigned = dict(second, signatures=[])
     refused = f"refused {compact(f'{REGISTRY}/other:v2')} Unsatisfied {compact(digest(other))}"
@@ -92,7 +92,7 @@ def written():
     lock("a_refused_image", [dict(base, keys=["k2"])], [f"refused {compact(app)} Unsatisfied {compact(digest(IMAGE))}"], 1)
     lock("a_policy_without_constraint", [dict(base, constraints=[])], [f"refused {compact(app)} EmptyPolicy"], 1)
     lock("a_policy_without_constraint_in_second_place", [base, dict(second, constraints=[])], [f"refused {compact(f'{REGISTRY}/other:v2')} EmptyPolicy"], 1)
-    # A document that is no UTF-8 is no JSON.
+    # A document that is not UTF-8 is not JSON.
     latin = {"base64": base64_of("x").replace("eA==", "/w==")}
     broken = json.loads(json.dumps(base))
     broken["shelf"]["documents"]["sha256:" + __import__("hashlib").sha256(b"\xff").hexdigest()] = {"media_type": "m", "content": latin}
@@ -107,7 +107,7 @@ def written():
     error = f"RegistryPullError {compact(REGISTRY + '/app@' + digest(index))} ImageIndexParsingNoPlatformResolverError"
     lock("an_image_of_an_index_without_platform", [dict(indexed, platform=None)], [f"refused {compact(app)} {error}"], 1)
     bundles(app)
-    # Input that is no list of such cases.
+    # Input that is not a list of such cases.
     for title, value in [
         ("no_case", []),
         ("a_case_without_list", base),
@@ -196,7 +196,7 @@ def held():
 
 
 def several(policy, one):
-    """The first entry that is not locked is told."""
+    """The first entry that is not locked is reported."""
     second = dict(one, image=f"{REGISTRY}/b:v1")
     third = dict(one, image=f"{REGISTRY}/c:v1")
     check("three_entries_that_hold", policy, file_of(one, second, third), "lock holds")
@@ -248,7 +248,7 @@ def keyless(app, signature, policy):
 
 
 def refused():
-    """Files that are no locks."""
+    """Files that are not locks."""
     app, signature = f"{REGISTRY}/app:v1", payload()
     policy = json.loads(case([], [signature]))
     one = locked(app, IMAGE, signature)

@@ -26,7 +26,7 @@ class Refused(Exception):
 
 
 class Violation(Refused):
-    """Another status of success than the specification has."""
+    """Another 2xx status than the specification has."""
 
 
 class Unlocated(Refused):
@@ -34,7 +34,7 @@ class Unlocated(Refused):
 
 
 def only_url(text):
-    """Refuses a text that is not a URL of a request."""
+    """Refuses a string that is not the URL of a request."""
     parts = urlsplit(text)
     if parts.scheme not in ("http", "https") or not parts.hostname or parts.username is not None:
         raise Refused(f"UrlParseError {compact(text)}")
@@ -343,7 +343,7 @@ def targets():
 
 
 def pulls():
-    """A refused pull is told alone."""
+    """A refused pull is reported alone."""
     base = Image()
     answers = answers_for(base)
     refused("a_policy_without_constraint", dict(base.case, constraints=[]), target_of(answers), ["moment 100", "refused EmptyPolicy"])
@@ -416,7 +416,7 @@ def locations():
 
 
 def refusals():
-    """One fault at each of the target's 22 requests. A token step that fails is passed over."""
+    """One fault at each of the target's 22 requests. A token step that fails is ignored."""
     base = Image()
     whole = stepped(answers_for(base))
     listed = compact({"errors": [{"code": "DENIED", "message": "m"}]})
@@ -442,7 +442,7 @@ def refusals():
 
 
 def other_statuses():
-    """A registry that answers an upload with another status of success is sent the blob whole."""
+    """A registry that responds to an upload with another 2xx status is sent the blob whole."""
     base = Image()
     whole = answers_for(base)
     again = [located(202, UPLOAD), located(201, "/v2/copy/blobs/1")]
