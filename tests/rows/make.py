@@ -121,7 +121,7 @@ NO_REFERRERS = [TOKEN] + [TOKEN, answer(status=404)] * 2
 
 
 def listing(named):
-    """The requests for the referrers of a digest where no list of them is there: a token step, the list and its tag."""
+    """The requests for the referrers of a digest if no list of them exists: a token step, the list and its tag."""
     return [f"GET {BASE}"] + requests(f"referrers/{named}", "manifests/" + named.replace(":", "-"))
 
 
@@ -164,7 +164,7 @@ def base_run():
 
 
 def both_kinds(layers):
-    """A document that reads as a manifest with these layers and as an index without entries."""
+    """A document that parses as a manifest with these layers and as an index without entries."""
     return compact({"schemaVersion": 2, "config": descriptor(CONFIG, "{}"), "layers": layers, "manifests": []})
 
 
@@ -222,7 +222,7 @@ def pulls():
     moved = answers[:-1] + [answer(None, None, 307, headers=[["location", other]]), answer(None, None, 302, headers=[["location", there]]), answers[-1]]
     lines = ["moment 100"] + asked + [f"GET {other}", f"GET {there}"] + image_lines(signature)
     write("pulls/two_redirects_with_a_password", case(moved, [signature], auth={"basic": ["user", "secret"]}), lines)
-    # A redirect that leads nowhere is an answer, and an error of a blob is told with its list of errors, if it has one.
+    # A redirect that leads nowhere is an answer, and an error of a blob is reported with its list of errors, if it has one.
     url = compact(f"{BASE}app/blobs/{digest(CONTENT)}")
     listed = compact({"errors": [{"code": "ARTIFACT_LOCKED", "message": "m"}]})
     known = compact({"errors": [{"code": "BLOB_UNKNOWN", "message": "m"}]})
@@ -274,7 +274,7 @@ def docker_hub():
 
 
 def twelve_layers():
-    """An image as a registry of many users has it: one of eight platforms, twelve layers with notes, behind a service that gives tokens."""
+    """An image as a registry of many users has it: one of eight platforms, twelve layers with annotations, with a token service."""
     gzipped, registry = LAYER + "+gzip", "https://index.docker.io/v2/"
     realm = "https://auth.docker.io/token"
     contents = [f"layer {i}\n" * (i + 1) for i in range(12)]
@@ -289,7 +289,7 @@ def twelve_layers():
     signatures, tag = manifest("{}", [signed(signature)]), digest(index).replace(":", "-")
     wanted = answer(status=401, headers=[["www-authenticate", f'Bearer realm="{realm}",service="registry.docker.io"']])
     given = answer(compact({"token": "e30.eyJleHAiOjE3MDAwMDAzMDB9.signature"}))
-    # A token serves all requests, but that the list of referrers is asked for with a new one.
+    # A token serves all requests, but that the list of referrers is requested with a new one.
     found = [signatures, signatures, "{}", signature, None, None, index, image, "{}", *contents]
     answers = [wanted, given, answer(None, digest(index))]
     answers += [answer(status=404) if content is None else answer(content, digest(content)) for content in found]
@@ -321,7 +321,7 @@ def shelves():
     url = f"{BASE}app/manifests/v1"
     lines += [f'refused RegistryFetchManifestError "{REGISTRY}/app:v1" ServerError 404 "{url}" 0']
     write("shelves/another_repository", case(None, [signature], shelf=dict(shelf, repository="other")), lines, 1)
-    # A tag whose digest is no digest of the document: a registry may say anything.
+    # A tag whose digest does not name the document: a registry may say anything.
     lies = dict(shelf, documents=dict(shelf["documents"], **{digest(IMAGE): {"media_type": MANIFEST, "content": IMAGE + " "}}))
     tag = compact(f"{REGISTRY}/app@{digest(IMAGE)}")
     error = f"DigestError VerificationError {compact(digest(IMAGE))} {compact(digest(IMAGE + ' '))}"
@@ -436,7 +436,7 @@ def referrers():
     elsewhere, signed_text = bundle(digest("x"))
     lines = listed + asks(elsewhere) + [unsatisfied, skipped_tag, f"skipped Layer Referrers {compact(digest(elsewhere))} OtherDigest"]
     one("a_bundle_of_another_image", lines, signatures=[{"key": "k1", "message": digest(signed_text), "signature": "sig1"}], referrers=answers_to(index_of(descriptor(MANIFEST, refers(elsewhere)))), documents=[refers(elsewhere)], blobs=[elsewhere])
-    # By a digest of SHA-512 the tag of the signatures is too long, and is not asked for.
+    # By a digest of SHA-512 the tag of the signatures is too long, and is not requested.
     named = digest(IMAGE, "sha512")
     by_long, long_text = bundle(named, "sha512")
     shelf = shelf_of({"v1": named}, [refers(by_long)], ["{}", CONTENT, by_long], referrers={named: index_of(descriptor(MANIFEST, refers(by_long)))})
@@ -545,7 +545,7 @@ def chains():
     one("a_certificate", 0, certified, keyless)
     one("a_certificate_that_nobody_vouches_for", 1, certified, dict(keyless, vouched=[]))
     one("a_certificate_where_no_log_is_known", 1, certified, dict(keyless, log_keys={}))
-    # Input that is no case and chain.
+    # Input that is not a case and a chain.
     for title, changes in [
         ("a_chain_with_another_member", {"at": 1}),
         ("an_entry_of_null", {"entry": None}),
@@ -597,7 +597,7 @@ def log_body(content, signature="sig1"):
 
 
 def log_entry(body, timestamp="set1"):
-    """The annotation with the entry, and the texts of its four members as they stand there and in canonical order."""
+    """The annotation with the entry, and the texts of its four members in that order and in canonical order."""
     members = {"logIndex": 2, "logID": "ab", "integratedTime": 1, "body": body}
     note = compact({"SignedEntryTimestamp": base64_of(timestamp), "Payload": members})
     return note, compact(members), json.dumps(members, separators=(",", ":"), sort_keys=True)
@@ -644,7 +644,7 @@ def layers():
     ]:
         other, _, text = log_entry(body)
         one(f"a_log_entry_{title}", {ENTRY: other}, [skipped + f"OtherLogEntry {compact(body)}"], [by_key, log_signs(text)], log_keys=known)
-    # What one check finds is told before what the next one would.
+    # What one check finds is reported before what the next one would find.
     other, sent, text = log_entry(base64_of("{}"))
     one("a_log_entry_of_an_unknown_log_before_its_signature", {ENTRY: other}, [skipped + 'UnknownLogKey "ab"'], [by_key], log_keys={"cd": "lk"})
     one("a_log_entry_without_signature_before_its_body", {ENTRY: other, CERTIFICATE: "CERT"}, [skipped + "BadLogSignature"], [by_key, log_signs(sent)], log_keys=known)
@@ -731,7 +731,7 @@ def indexes():
     one("no_platform", index, None, [], "ImageIndexParsingNoPlatformResolverError")
     one("an_index_behind_an_index", behind, "linux/amd64", [index], f"ImageManifestNotFoundError {compact(digest(index))}")
     one("an_entry_that_is_no_document", index, by_x, ["x"], "VersionedParsingError 1")
-    # An array is no document, and a document that reads as both kinds is refused.
+    # An array is not a document, and a document that parses as both kinds is refused.
     both = both_kinds([descriptor(LAYER, CONTENT)])
     one("an_image_that_is_an_array", "[]", None, [], "VersionedParsingError 2")
     one("an_entry_that_is_an_array", index_of(entry("amd64", "[]")), "linux/amd64", ["[]"], "VersionedParsingError 2")
@@ -743,7 +743,7 @@ def indexes():
 
 
 def elsewhere():
-    """Pulls of an image whose layer's descriptor lists URLs, which are asked while the answer is one of an error."""
+    """Pulls of an image whose layer's descriptor lists URLs, which are requested while the status is 4xx or 5xx."""
     web, second, other = "http://cdn.example/l", "https://cdn.example:8443/m?x=1", "ftp://cdn.example/l"
     secret, unreadable = "http://u:p@cdn.example/l", "http://[cdn.example/l"
     gone, down, given = answer(status=404), answer(status=503), answer(CONTENT, digest(CONTENT))
@@ -796,7 +796,7 @@ def digests():
     for title, head, text in refused:
         lines = ["moment 100"] + requests(("HEAD", "manifests/v1")) + [f'refused RegistryFetchManifestError "{REGISTRY}/app:v1" {text}']
         write(f"digests/{title}", case([TOKEN, head], accepted=[]), lines, 1)
-    # The digest that is answered is no digest: by a tag the image by it does not read back.
+    # The digest that is returned is malformed: the tag's reference with it does not parse to itself.
     answers = [TOKEN, answer(None, "sha256")]
     lines = ["moment 100"] + requests(("HEAD", "manifests/v1")) + [f'refused OciReferenceNotValidError "{REGISTRY}/app@sha256"']
     write("digests/no_digest_for_a_tag", case(answers), lines, 1)
@@ -852,7 +852,7 @@ def signatures():
     for title, reply, text in refused:
         lines = front + [f"skipped Source Tag Refused RegistryPullManifestError {tag} {text}"]
         write(f"signatures/{title}", case([TOKEN, NAMED, TOKEN, reply] + NO_REFERRERS, accepted=[]), lines, 1)
-    # A body of so many bytes as the limit is read, and one of more is not.
+    # A body as long as the limit is read, and a longer one is not.
     for title, body, text in [("a_body_within_the_limit", ["x", "2", "3", "4", "5"], "VersionedParsingError 5"), ("a_body_past_the_limit", ["x", "2", "3", "4", "5", "6"], "BodyTooLong")]:
         lines = front + [f"skipped Source Tag Refused RegistryPullManifestError {tag} {text}"]
         write(f"signatures/{title}", case([TOKEN, NAMED, TOKEN, answer(body)] + NO_REFERRERS, limit=5), lines, 1)
@@ -902,7 +902,7 @@ def tokens():
     one("a_realm_with_a_backslash_before_a_character", [challenged(r'Bearer realm="http://auth.example\/token"'), given], [f"GET {BASE}", f"GET {REALM}{SCOPE}"])
     one("a_scheme_without_realm", [challenged('Basic realm="x"')], [f"GET {BASE}"])
     one("a_challenge_that_stops_to_read", [challenged(f'Bearer realm="{REALM}')], [f"GET {BASE}"])
-    # A step that is refused gives no token, and the request goes out without one.
+    # A step that is refused gives no token, and the request is sent without one.
     one("a_first_request_that_fails", ["fail"], [f"GET {BASE}"])
     one("a_realm_that_fails", [bearer, "fail"], [f"GET {BASE}", f"GET {REALM}{SCOPE}"])
     one("a_realm_with_status_403", [bearer, answer("no", status=403)], [f"GET {BASE}", f"GET {REALM}{SCOPE}"])
@@ -913,7 +913,7 @@ def tokens():
     lines += ["moment 161", f"GET {BASE}", f"GET {REALM}{SCOPE}", asked, refusal]
     answers = [bearer, given, refused, refused, bearer, given, refused]
     write("tokens/a_kept_token_until_it_expires", case(answers, moments=[100, 160, 161], **basic), lines, 1)
-    # So is one of five parts, which is no JSON web token.
+    # So is one of five parts, which is not a JSON web token.
     five = [bearer, answer('{"token":"a.b.c.d.e"}'), refused, refused, bearer, answer('{"token":"a.b.c.d.e"}'), refused]
     write("tokens/a_token_of_five_parts", case(five, moments=[100, 160, 161], **basic), lines, 1)
     # A payload with padding cannot be decoded (RFC 7515, 2), so its token is not kept.
@@ -929,7 +929,7 @@ def tokens():
 
 
 def first_of_referrers():
-    """Before the referrers a token is asked for, and there a refused step refuses the source: its requests are not made."""
+    """Before the referrers a token is requested, and there a refused step refuses the source: its requests are not made."""
     answers, asked, signature = base_run()
     secret, other = "http://u:p@auth.example/t", "ftp://auth.example/t"
     bearer = challenged(f'Bearer realm="{REALM}"')
@@ -1002,7 +1002,7 @@ def references():
 
 
 def kept():
-    """A client that keeps answers: the digest and the signatures are given again for less than 60 seconds."""
+    """A client that caches: the digest and the signatures are returned again for less than 60 seconds."""
     answers, asked, signature = base_run()
     again, more = answers[-6:], asked[-6:]
     image = image_lines(signature)
@@ -1020,7 +1020,7 @@ def kept():
     moments("61_seconds_later", (100, True), (161, True))
     moments("at_the_same_moment", (100, True), (100, False))
     moments("a_moment_back", (100, True), (99, True))
-    # What was kept later is not given to an earlier moment, and what takes its place ends sooner.
+    # What was cached later is not returned at an earlier moment, and what replaces it expires sooner.
     moments("a_moment_back_and_on", (100, True), (90, True), (149, False), (150, True))
     # A given answer is not kept anew.
     moments("from_the_first_answer_on", (100, True), (140, False), (159, False), (160, True))
@@ -1037,7 +1037,7 @@ def kept():
 
 
 def faults():
-    """A fault at each request of a pull, and at each piece of an answer. One of the token step is passed over, and one of the
+    """A fault at each request of a pull, and at each piece of an answer. One of the token step is ignored, and one of the
     referrers skips them."""
     answers, asked, signature = base_run()
     tag, by_digest = compact(f"{REGISTRY}/app:{TAG}"), compact(f"{REGISTRY}/app@{digest(IMAGE)}")
@@ -1062,7 +1062,7 @@ def faults():
                 given, lines = answers[: line - 1] + [change] + answers[line:], asked + image_lines(signature)
             status = 0 if lines[-1].startswith("signature") else 1
             write(f"faults/answer_{line:02}_{title}", case(given, [signature]), ["moment 100"] + lines, status)
-    # A fault behind the last piece and the end never comes.
+    # A fault after the last piece and the end never occurs.
     late = [dict(a, fault=len(a.get("pieces", [])) + 1) for a in answers]
     write("faults/behind_the_end", case(late, [signature]), ["moment 100"] + asked + image_lines(signature))
 
