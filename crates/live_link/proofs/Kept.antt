@@ -12,7 +12,7 @@ use Rattle.live_link.specs.Asking.{Asked, Asks, unsent, head_after, piece_after,
 use Rattle.live_link.specs.Bodies.{body_in}
 use Rattle.live_link.specs.Requests.{request_text, more_text}
 use Rattle.live_link.specs.Transcript.{IsReply, UnansweredTurn, TurnBy, Turn, Transcript}
-use Rattle.live_link.specs.State.{is_open, breach_in, exchange_in, ends_answered, Held, HeldAt}
+use Rattle.live_link.specs.State.{is_open, breach_in, exchange_in, ends_answered, IsFront, SentLast, a_piece, a_request, Held, HeldAt}
 use Rattle.live_link.specs.declared.replies.Reply.{Reply}
 use Rattle.live_link.specs.declared.replies.Reply.TheVariants.{Answer, Piece, End, Failed, Other}
 use Rattle.live_link.specs.declared.stage.Breach.{Breach}
@@ -26,6 +26,19 @@ pub left_after : (a b : Option (List ℕ)) (came xs : List ℕ) → a ≡ Some x
 left_after None b came xs is taken = absurd (cc is)
 left_after (Some zs) None came xs is taken = absurd taken
 left_after (Some zs) (Some ys) came xs is taken = (ys, refl, sym (ap (λ o. unwrap_or o []) is) ∙ taken)
+
+whole_front : (text : List ℕ) → IsFront text text
+whole_front text = ([], sym (append-nil text))
+
+-- nothing was sent outside the frames
+pub nothing_last : (c : List Exchange) → SentLast c []
+nothing_last c = a_piece (more_text, refl)
+
+-- one more exchange
+last_kept : (c : List Exchange) (e : Exchange) (front : List ℕ) → SentLast c front → SentLast (c ++ e ∷ []) front
+last_kept c e front (a_piece is) = a_piece is
+last_kept c e front (a_request before after f at none is) =
+    a_request before (after ++ e ∷ []) f (ap (λ d. d ++ e ∷ []) at ∙ append_assoc before (f ∷ after) (e ∷ [])) none is
 
 -- nothing is lost yet: all that was sent and received is the frames of these exchanges
 record InStep (taken left : List ℕ) (sink : SinkState) (source : SourceState) (c : List Exchange) : Type 0 where
@@ -63,6 +76,7 @@ held_of taken left sink source breach c step = record {
   leaves = step.leaves;
   gave = step.gave;
   spoke = step.spoke;
+  last = nothing_last c;
   in_step = λ none. (refl, refl);
 }
 
@@ -98,10 +112,10 @@ turned_more taken left reply k l s t c step answered asked =
       spoke = asks_more c step.sent step.came asked.came rest.0 answered (reply, asked.replied) (subst (Transcript c step.sent step.came) rest.2 step.spoke);
     }
 
--- whatever was sent and received is lost
+-- a prefix of the request for a piece was sent, and is lost with whatever was received
 lost : (taken left front came : List ℕ) (k l : SinkState) (s t : SourceState) (c : List Exchange) (breach : Breach)
-    → InStep taken left k s c → Adds front k l → Takes came s t → Held taken left l t (Some breach) c
-lost taken left front came k l s t c breach step sent got =
+    → InStep taken left k s c → Adds front k l → IsFront front more_text → Takes came s t → Held taken left l t (Some breach) c
+lost taken left front came k l s t c breach step sent is got =
     let rest = left_after s.left t.left came step.after step.leaves got in
     record {
       sent = step.sent;
@@ -113,6 +127,26 @@ lost taken left front came k l s t c breach step sent got =
       leaves = rest.1;
       gave = step.gave ∙ ap (λ s. step.came ++ s) rest.2;
       spoke = subst (Transcript c step.sent step.came) rest.2 step.spoke;
+      last = a_piece is;
+      in_step = λ none. absurd (cc none);
+    }
+
+-- the same of a request, which is an exchange without a response
+lost_request : (taken left front came : List ℕ) (k l : SinkState) (s t : SourceState) (c : List Exchange) (e : Exchange) (breach : Breach) → e.answer ≡ None
+    → InStep taken left k s c → Adds front k l → IsFront front (request_text e.request) → Takes came s t → Held taken left l t (Some breach) (c ++ e ∷ [])
+lost_request taken left front came k l s t c e breach none step sent is got =
+    let rest = left_after s.left t.left came step.after step.leaves got in
+    record {
+      sent = step.sent ++ [];
+      came = step.came ++ [];
+      lost_out = front;
+      lost_in = came;
+      after = rest.0;
+      took = sent.took (taken ++ step.sent) step.took ∙ ap Some (append_assoc taken step.sent front) ∙ ap (λ s. Some (taken ++ (s ++ front))) (sym (append-nil step.sent));
+      leaves = rest.1;
+      gave = step.gave ∙ ap (λ s. step.came ++ s) rest.2 ∙ ap (λ s. s ++ (came ++ rest.0)) (sym (append-nil step.came));
+      spoke = one_more c e step.sent step.came [] [] (came ++ rest.0) (subst (Transcript c step.sent step.came) rest.2 step.spoke) (subst (λ o. TurnBy o e.request [] [] (came ++ rest.0)) (sym none) (UnansweredTurn.unsent refl refl));
+      last = a_request c [] e refl none is;
       in_step = λ none. absurd (cc none);
     }
 
@@ -129,6 +163,7 @@ unasked taken left sink source breach c e none held = record {
   leaves = held.leaves;
   gave = held.gave ∙ ap (λ s. s ++ (held.lost_in ++ held.after)) (sym (append-nil held.came));
   spoke = one_more c e held.sent held.came [] [] (held.lost_in ++ held.after) held.spoke (subst (λ o. TurnBy o e.request [] [] (held.lost_in ++ held.after)) (sym none) (UnansweredTurn.unsent refl refl));
+  last = last_kept c e held.lost_out held.last;
   in_step = held.in_step;
 }
 
@@ -181,10 +216,10 @@ refused taken left k l s t c request faults step asked =
 
 -- the streams broke
 broke : (taken left front came : List ℕ) (k l : SinkState) (s t : SourceState) (c : List Exchange) (request : Request) (faults : ℕ) (breach : Breach)
-    → InStep taken left k s c → Adds front k l → Takes came s t
+    → InStep taken left k s c → Adds front k l → IsFront front (request_text request) → Takes came s t
     → HeldAt taken left l t (Broken breach) (c ++ exchange_in t.left (request, heard_of None faults) ∷ [])
-broke taken left front came k l s t c request faults breach step sent got = record {
-  held = unasked taken left l t (Some breach) c (exchange_in t.left (request, heard_of None faults)) refl (lost taken left front came k l s t c breach step sent got);
+broke taken left front came k l s t c request faults breach step sent is got = record {
+  held = lost_request taken left front came k l s t c (exchange_in t.left (request, heard_of None faults)) breach refl step sent is got;
   answered = λ is. absurd (cc is);
 }
 
@@ -192,11 +227,11 @@ replied : (taken left : List ℕ) (k l : SinkState) (s t : SourceState) (c : Lis
     → InStep taken left k s c → Asks (request_text request) reply s t k l
     → HeldAt taken left l t (head_after reply).0 (c ++ exchange_in t.left (request, heard_of (head_after reply).1 faults) ∷ [])
 replied taken left k l s t c request faults (Ok (Answer head)) step asks = answered taken left k l s t c request head faults step asks
-replied taken left k l s t c request faults (Ok (Piece piece)) step asks = broke taken left (request_text request) asks.came k l s t c request faults _ step asks.sent asks.taken
-replied taken left k l s t c request faults (Ok End) step asks = broke taken left (request_text request) asks.came k l s t c request faults _ step asks.sent asks.taken
+replied taken left k l s t c request faults (Ok (Piece piece)) step asks = broke taken left (request_text request) asks.came k l s t c request faults _ step asks.sent (whole_front (request_text request)) asks.taken
+replied taken left k l s t c request faults (Ok End) step asks = broke taken left (request_text request) asks.came k l s t c request faults _ step asks.sent (whole_front (request_text request)) asks.taken
 replied taken left k l s t c request faults (Ok Failed) step asks = refused taken left k l s t c request faults step asks
-replied taken left k l s t c request faults (Ok Other) step asks = broke taken left (request_text request) asks.came k l s t c request faults _ step asks.sent asks.taken
-replied taken left k l s t c request faults (Err breach) step asks = broke taken left asks.front asks.came k l s t c request faults breach step asks.sent asks.taken
+replied taken left k l s t c request faults (Ok Other) step asks = broke taken left (request_text request) asks.came k l s t c request faults _ step asks.sent (whole_front (request_text request)) asks.taken
+replied taken left k l s t c request faults (Err breach) step asks = broke taken left asks.sent.front asks.came k l s t c request faults breach step asks.sent.added (asks.sent.left, asks.sent.split) asks.taken
 
 not_asked : (taken left : List ℕ) (sink : SinkState) (source : SourceState) (stage : Stage) (c : List Exchange) (request : Request) (faults : ℕ)
     → HeldAt taken left sink source stage c → HeldAt taken left sink source (unsent stage) (c ++ exchange_in source.left (request, heard_of None faults) ∷ [])
@@ -223,12 +258,12 @@ sends taken left k l s t stage r c request faults at (was_sent reply none is ask
 
 pieced : (taken left : List ℕ) (k l : SinkState) (s t : SourceState) (c : List Exchange) (reply : Result Reply Breach)
     → InStep taken left k s c → ends_answered c ≡ true → Asks more_text reply s t k l → HeldAt taken left l t (piece_after reply).0 c
-pieced taken left k l s t c (Ok (Answer head)) step last asks = record { held = lost taken left more_text asks.came k l s t c _ step asks.sent asks.taken; answered = λ is. absurd (cc is) }
+pieced taken left k l s t c (Ok (Answer head)) step last asks = record { held = lost taken left more_text asks.came k l s t c _ step asks.sent (whole_front more_text) asks.taken; answered = λ is. absurd (cc is) }
 pieced taken left k l s t c (Ok (Piece piece)) step last asks = record { held = held_of taken left l t None c (turned_more taken left (Piece piece) k l s t c step last asks); answered = λ is. last }
 pieced taken left k l s t c (Ok End) step last asks = record { held = held_of taken left l t None c (turned_more taken left End k l s t c step last asks); answered = λ is. last }
 pieced taken left k l s t c (Ok Failed) step last asks = record { held = held_of taken left l t None c (turned_more taken left Failed k l s t c step last asks); answered = λ is. last }
-pieced taken left k l s t c (Ok Other) step last asks = record { held = lost taken left more_text asks.came k l s t c _ step asks.sent asks.taken; answered = λ is. absurd (cc is) }
-pieced taken left k l s t c (Err breach) step last asks = record { held = lost taken left asks.front asks.came k l s t c breach step asks.sent asks.taken; answered = λ is. absurd (cc is) }
+pieced taken left k l s t c (Ok Other) step last asks = record { held = lost taken left more_text asks.came k l s t c _ step asks.sent (whole_front more_text) asks.taken; answered = λ is. absurd (cc is) }
+pieced taken left k l s t c (Err breach) step last asks = record { held = lost taken left asks.sent.front asks.came k l s t c breach step asks.sent.added (asks.sent.left, asks.sent.split) asks.taken; answered = λ is. absurd (cc is) }
 
 -- what is known after the request for a piece
 pub gives : (taken left : List ℕ) (k l : SinkState) (s t : SourceState) (stage : Stage) (r : Stage × Option (List ℕ)) (c : List Exchange)

@@ -6,6 +6,7 @@ use Rattle.byte_streams.specs.Source.{SourceState}
 use Rattle.oci_transport.specs.declared.message.Exchange.{Exchange}
 use Rattle.oci_transport.specs.declared.message.Answer.{Answer}
 use Rattle.live_link.specs.State.{opening, told_from, told_since, breach_in, Held, HeldAt, Holds}
+use Rattle.live_link.proofs.Kept.{nothing_last}
 use Rattle.live_link.specs.declared.stage.Stage.{Stage}
 use Rattle.live_link.specs.declared.stage.Stage.TheVariants.{Ended}
 
@@ -22,6 +23,7 @@ begun sink_state source_state taken left took leaves = record {
     leaves = leaves;
     gave = refl;
     spoke = (refl, refl);
+    last = nothing_last [];
     in_step = λ none. (refl, refl);
   };
   answered = λ is. absurd (cc is);

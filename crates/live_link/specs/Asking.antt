@@ -1,6 +1,6 @@
 -- One question to the host: a frame is sent, and a frame is received.
 use Rattle.std.specs.Prelude.{◌≡◌, ℕ, List, [], Option, Some, None, Result, Ok, Err}
-use Rattle.byte_streams.specs.SinkState.{SinkState, Adds}
+use Rattle.byte_streams.specs.SinkState.{SinkState, Adds, AddsPrefix}
 use Rattle.byte_streams.specs.Source.{SourceState, Takes}
 use Rattle.oci_transport.specs.declared.message.Request.{Request}
 use Rattle.oci_transport.specs.declared.message.AnswerHead.{AnswerHead}
@@ -21,16 +21,15 @@ pub record Asked (text : List ℕ) (reply : Reply) (s t : SourceState) (k l : Si
   pub replied : Replies reply came
   pub taken : Takes came s t
 
--- anything was sent and received
-pub record Unknown (s t : SourceState) (k l : SinkState) : Type 0 where
-  pub front : List ℕ
+-- a prefix of this text was sent, and anything was received
+pub record Unknown (text : List ℕ) (s t : SourceState) (k l : SinkState) : Type 0 where
   pub came : List ℕ
-  pub sent : Adds front k l
+  pub sent : AddsPrefix text k l
   pub taken : Takes came s t
 
 abbrev pub Asks : List ℕ → Result Reply Breach → SourceState → SourceState → SinkState → SinkState → Type 0
 Asks text (Ok reply) s t k l = Asked text reply s t k l
-Asks text (Err breach) s t k l = Unknown s t k l
+Asks text (Err breach) s t k l = Unknown text s t k l
 
 -- the stage of a request that is not sent
 abbrev pub unsent : Stage → Stage

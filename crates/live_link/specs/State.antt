@@ -11,6 +11,7 @@ use Rattle.oci_transport.specs.declared.message.Request.{Request}
 use Rattle.oci_transport.specs.declared.message.Exchange.{Exchange}
 use Rattle.http_server.specs.declared.log.Log.{Log}
 use Rattle.live_link.specs.Bodies.{body_in}
+use Rattle.live_link.specs.Requests.{request_text, more_text}
 use Rattle.live_link.specs.Transcript.{Transcript}
 use Rattle.live_link.specs.declared.stage.Breach.{Breach}
 use Rattle.live_link.specs.declared.stage.Stage.{Stage}
@@ -84,8 +85,19 @@ rest_in Open left = option_map body_in left
 rest_in Cut left = Some []
 rest_in (Broken why) left = Some []
 
+-- a prefix of this text
+abbrev pub IsFront : List ℕ → List ℕ → Type 0
+IsFront front text = (rest : List ℕ) × text ≡ front ++ rest
+
+-- what was sent last, outside the frames of these exchanges: a prefix of one frame, which requests a piece, or one of the
+-- exchanges without a response
+pub data SentLast (c : List Exchange) (front : List ℕ) : Type 0 where
+  a_piece : IsFront front more_text → SentLast c front
+  a_request : (before after : List Exchange) (e : Exchange) → c ≡ before ++ e ∷ after → e.answer ≡ None
+      → IsFront front (request_text e.request) → SentLast c front
+
 -- All that was sent and received since, if source and sink exposed their bytes: the frames of these exchanges and, if
--- something broke the streams, bytes outside of all frames after them.
+-- something broke the streams, bytes outside of them after them: of those sent, a prefix of one frame.
 pub record Held (taken left : List ℕ) (sink_state : SinkState) (source_state : SourceState) (breach : Option Breach)
     (c : List Exchange)
     : Type 0 where
@@ -98,6 +110,7 @@ pub record Held (taken left : List ℕ) (sink_state : SinkState) (source_state :
   pub leaves : source_state.left ≡ Some after
   pub gave : left ≡ came ++ (lost_in ++ after)
   pub spoke : Transcript c sent came (lost_in ++ after)
+  pub last : SentLast c lost_out
   pub in_step : breach ≡ None → (lost_out ≡ []) × (lost_in ≡ [])
 
 -- while a body is read, the last exchange has a response

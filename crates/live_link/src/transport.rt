@@ -11,7 +11,7 @@ use oci_transport::{AnswerHead, LinkError, Request, Transport};
 use std::alloc::Global;
 
 /// Sends requests as frames to a sink, and reads their responses as frames from a source: the owner of the other ends
-/// makes the connections. Once a frame is malformed, out of turn or truncated, each send fails.
+/// makes the connections. Once a frame is malformed, out of turn or truncated, nothing more is sent.
 #[derive(Drop)]
 pub struct StreamTransport<S: Source, K: Sink> {
     source: S,
@@ -59,7 +59,8 @@ impl<S: Source, K: Sink> StreamTransport<S, K> {
         }
     }
 
-    /// Returns the streams. The bytes sent and received since the beginning are the frames of the exposed exchanges.
+    /// Returns the streams. The bytes sent and received since the beginning are the frames of the exposed exchanges; if
+    /// the streams broke (`breach`), a prefix of one more frame was sent after them, and any bytes were received.
     pub fn finish(self) -> (S, K)
         ensures transcript { (taken left : List ℕ) (c : List Exchange)
             → (state_of self).told ≡ Some (opening taken left ∷ c)
