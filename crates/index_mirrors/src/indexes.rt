@@ -115,8 +115,8 @@ fn push_index<B: Transport>(
 /// Copies an index with all of its images, after its documents were verified (`Client::verified_documents`): the image
 /// of each entry, in order, is pulled by the index's digest as `Client::verified_pull` does, by a new client that selects
 /// this entry; its blobs and its manifest are pushed as `push_entry` does; and it is dropped before the next. Then the
-/// index is pushed with its signature, as `push_documents` does: so the target never has the index under the tag
-/// without an image of it that it took. Of the images one is held at a time.
+/// index is pushed with its signature, as `push_documents` does: so the index is
+/// pushed only after each of its images was. Of the images one is held at a time.
 ///
 /// Returns `NotIndex` if the document that was signed is not an index, or if the reference does not have its digest,
 /// without a request; `Pull` with the first entry that was not pulled; `Other` with one whose image is not the entry's;

@@ -6,7 +6,7 @@ use pull_mirror::DocumentsRefusal;
 use std::alloc::AllocError;
 use thiserror::Error;
 
-/// Why an index was not copied whole. The index is then not at the target under the tag, unless it was before.
+/// Why an index was not copied whole. Unless it is `Index` or memory ran out, the index was not pushed.
 #[derive(Debug, Drop, Error)]
 pub enum IndexRefusal {
     /// The document that was signed is not an index, or is not that of the reference. No request was sent.

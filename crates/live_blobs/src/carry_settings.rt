@@ -21,7 +21,7 @@ pub struct CarrySettings {
     pub target: TargetSettings,
     /// The blob's digest, `sha256:` and 64 hexadecimal digits.
     pub digest: Text,
-    /// The greatest number of bytes that the blob may have.
+    /// The number of bytes of the blob. A longer one is refused, by its digest if it has at most 1048576 bytes.
     pub size: u64,
     /// When the blob is carried, in seconds since 1970.
     pub moment: u64,

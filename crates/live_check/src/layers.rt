@@ -70,7 +70,7 @@ pub(crate) fn layers_in(
     Ok(layers)
 }
 
-/// Asks the host everything that must be known about the signature layer of an entry. Nothing is asked about one that is
+/// Asks the host about the signature layer of an entry, as `ask_layers` does. Nothing is asked about one that is
 /// not about the entry's digest, whatever the signatures.
 pub fn ask_entry<S: Source, K: Sink>(
     alloc: Global,

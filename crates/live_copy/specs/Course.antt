@@ -158,7 +158,7 @@ CopyTold (Err e) old new = RefusalTold (refusal_print e) old new
 
 -- Documents that hold were decided on and sent, and what follows goes to the target. Unless its tags may be replaced, it
 -- was asked what they name; only if they may be pushed, the host carried the blobs and the documents were copied. What
--- became of it was sent. Nothing else was sent to the target than these runs.
+-- became of it was sent.
 pub record LiveCopy (settings : CopySettings) (d : VerifiedDocuments) (r : Result PushReport CopyRefusal)
     (old new : Wire) : Type 0 where
   pub image : Reference

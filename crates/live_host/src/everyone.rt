@@ -4,8 +4,8 @@ use cosign_parts::{Evidence, Offline, SignatureVerifier, Vouched};
 use json_values::Blob;
 use std::alloc::{AllocError, Global};
 
-/// Accepts each signature, and takes each certificate as nobody's. A search with it finds each layer that a search with
-/// any other verifier and judge may find; its result only determines the questions to the host.
+/// Accepts each signature, and takes each certificate as nobody's. The result of a search with it only determines the
+/// questions to the host.
 pub struct Everyone;
 
 impl SignatureVerifier for Everyone {

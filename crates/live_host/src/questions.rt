@@ -257,7 +257,7 @@ fn evidence_of(alloc: Global, layer: &SignatureLayer) -> Result<Option<Evidence>
     }))
 }
 
-// Asks everything that must be known about a layer: whether its log signed its entry, what is vouched for its
+// Asks about a layer: whether its log signed its entry, what is vouched for its
 // certificate, and whether its signature is valid under the certificate's key, or else under which policy keys.
 fn ask_layer<S: Source, K: Sink>(
     alloc: Global,
@@ -285,7 +285,8 @@ fn ask_layer<S: Source, K: Sink>(
     Ok(())
 }
 
-/// Asks everything that must be known about these layers.
+/// Asks the host about these layers: whether the log of each signed its entry, what is vouched for its certificate, and
+/// under which keys its signature is valid. Returns the answers, each to a question that was sent.
 pub fn ask_layers<S: Source, K: Sink>(
     alloc: Global,
     streams: &mut Streams<S, K>,

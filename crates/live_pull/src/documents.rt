@@ -145,7 +145,7 @@ fn converse<S: Source, K: Sink>(
 }
 
 /// Searches signature layers, asks the host about them, and decides on the documents of the image under its answers.
-/// Nothing is searched twice, no blob of the image is requested, and the result is not sent. Returns the exit status in
+/// Nothing is searched twice, no blob is requested after the search, and the result is not sent. Returns the exit status in
 /// place of the result if the host's stream or the output failed, or if memory ran out.
 pub fn search_and_decide<S: Source, K: Sink>(
     alloc: Global,
@@ -260,7 +260,7 @@ fn end_delivered<S: Source, K: Sink>(
 
 /// Does what `run` does after a frame `documents` was received: searches signature layers, asks the host about them,
 /// decides under its answers, and sends the documents of the image, or why they were refused. Nothing is searched
-/// twice, and no blob of the image is requested. Returns the exit status and the streams.
+/// twice, and no blob is requested after the search. Returns the exit status and the streams.
 pub fn serve_documents<S: Source, K: Sink>(
     alloc: Global,
     streams: Streams<S, K>,
