@@ -211,7 +211,7 @@ class Blobs(Ranges[Registry]):
                 found, tries, received.is_renewed = found + stood, TRIES, False
             if end["frame"] == "refused" and tries > 1 and received.may_go_on(end["report"]):
                 tries -= 1
-            elif end["frame"] == "refused" or end["status"] or len(found) < len(span):
+            elif end["frame"] != "stood":
                 return found, (end, Asked(registry.statuses, registry.failure))
         return found, None
 
@@ -238,11 +238,13 @@ class Blobs(Ranges[Registry]):
                         stood = frame["digests"]
                         if stood != [blob["digest"] for blob in self.blobs[span.start:span.stop]][:len(stood)]:
                             raise ValueError("a blob stood that was not asked for")
+                        if len(stood) == len(span):
+                            break
                 for _ in body:
                     pass
-            return frame, stood
+            return core.ended(frame, 1 if frame["frame"] == "refused" else 0), stood
         except (BrokenPipeError, LookupError, TypeError, ValueError):
-            return {"frame": "ended", "status": core.end()}, stood
+            return {"frame": "ended", "status": core.end()}, []
         finally:
             received.leave()
             core.close()

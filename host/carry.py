@@ -83,13 +83,13 @@ class Pair:
     def pull(self) -> None:
         """In the thread: the end of the blob's bytes is passed on only if a core says that they have the digest. Else the core that pushes is gone before, so that it commits nothing."""
         try:
-            end, stood = self.blobs.asked(range(self.at, self.at + 1), self.passed)
-            self.is_whole = len(stood) == 1 and end.get("status") == 0
+            end, _ = self.blobs.asked(range(self.at, self.at + 1), self.passed)
+            self.is_whole = end["frame"] == "stood"
             self.refusal = {} if self.is_whole or self.passed.is_cut else end
         except Exception as raised:  # where the other core is waited for
             self.raised.append(raised)
         finally:
-            if not self.is_whole:
+            if not (self.is_whole or self.passed.is_cut):  # else that core has closed its descriptor, and says why with a status of its own
                 self.core.process.kill()
                 self.core.process.wait()
             with contextlib.suppress(OSError, ValueError):
@@ -113,7 +113,7 @@ class Pair:
                     pass
             if frame["frame"] == "carried" and (frame["digest"] != first["digest"] or frame["state"] == "pushed" and not self.is_whole):
                 raise ValueError("a blob was carried that was not asked for, or had not come whole")
-            return frame, "target"
+            return core.ended(frame, 0 if frame["frame"] == "carried" else 1), "target"
         except (BrokenPipeError, LookupError, TypeError, ValueError):
             status = core.end()
             for raised in self.raised:

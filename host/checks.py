@@ -47,7 +47,8 @@ class Checks(Ranges[Stored]):
                         file = files.enter_context(open(path, "rb")) if path.is_file() else None
                     case "more":
                         core.write(*framed(file.read(PIECE)) if file else ({"frame": "failed"}, b""))
-            return [], None if frame["verdict"] == "holds" else (refusal(frame), Asked({}, ""))
+            is_held = core.ended(frame, 0 if frame["verdict"] == "holds" else 1)["verdict"] == "holds"
+            return [], None if is_held else (refusal(frame), Asked({}, ""))
         except (BrokenPipeError, LookupError, TypeError, ValueError):
             return [], ({"frame": "ended", "status": core.end()}, Asked({}, ""))
         finally:

@@ -104,7 +104,7 @@ class Exchanges:
 
 
 def converse(core: Core, settings: Frame, exchanges: Exchanges, signatures: Signatures) -> Frame:
-    """Answers the core's frames. The one that says how the pull ended, or one named `ended` with the core's status if none does."""
+    """Answers the core's frames. The one that says how the pull ended, or one named `ended` with the core's status if none does, or not with the status that fits it."""
     layout = exchanges.layout
     try:
         while (frame := core.read())["frame"] not in ("refused", "copied" if exchanges.carry else "pulled"):
@@ -134,7 +134,7 @@ def converse(core: Core, settings: Frame, exchanges: Exchanges, signatures: Sign
                     layout.add(frame["digest"], body)
             for _ in body:
                 pass
-        return frame
+        return core.ended(frame, 1 if frame["frame"] == "refused" else 0)
     except (BrokenPipeError, LookupError, TypeError, ValueError):
         return {"frame": "ended", "status": core.end()}
     finally:

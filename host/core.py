@@ -13,6 +13,7 @@ LINE, PIPE = 1 << 24, 1 << 20  # bytes: of a frame's line that the core writes, 
 WRITTEN = 1 << 20  # the most bytes of a line that the core reads
 PIECE = PIPE - 4096  # so that a pipe holds a piece with its line
 CARRIED = 3  # the descriptor on which a core that carries a blob gets its bytes
+LEAVES = 30  # seconds: in which a core ends after its last frame
 
 
 def framed(piece: bytes) -> tuple[Frame, bytes]:
@@ -89,6 +90,17 @@ class Core:
             with contextlib.suppress(OSError, ValueError):
                 stream.close()
         self.process.wait()
+
+    def ended(self, frame: Frame, status: int) -> Frame:
+        """The last frame, if the core writes nothing after it and exits with the status that fits it. ValueError if not: then what it said does not count."""
+        try:
+            is_over = self.process.wait(LEAVES) == status and not self.output.read(1)
+        except subprocess.TimeoutExpired:
+            self.process.kill()
+            is_over = False
+        if not is_over:
+            raise ValueError(f"the core did not end as the frame {frame['frame']} says")
+        return frame
 
     def end(self) -> int:
         """The status of a core that has ended, or ends since its host is gone."""

@@ -84,9 +84,9 @@ def holds(entry: Entry, settings: Frame, signatures: Signatures) -> bool:
         while (frame := core.read())["frame"] != "lock":
             message = b"".join(core.body(frame))
             core.write({"frame": "lockcheck", "lock": text_of([entry]), "settings": settings} if frame["frame"] == "begin" else signatures.reply(frame, message))
-        return bool(frame["verdict"] == "holds")
+        return bool(core.ended(frame, 0 if frame["verdict"] == "holds" else 1)["verdict"] == "holds")
     except (BrokenPipeError, LookupError, TypeError, ValueError):
-        raise End(4, f"the core ended with the status {core.end()}") from None
+        raise End(4, f"the core ended unexpectedly, with the status {core.end()}") from None
     finally:
         core.process.kill()
 

@@ -3,7 +3,7 @@
 
 FAKE says how it misbehaves: `ends N` exits with a status after the settings, `garbage` writes what is not a frame, `frame JSON` writes this one,
 `blobs N`, `check N` and `carry N` exit so when they get such a frame, `refused TEXT` refuses with this report, `settings` with a report of the settings, `early` exits with the half of a
-document written.
+document written. `last N FRAME` does what such a first frame asks for, and exits with N after the last frame (-9: is killed).
 """
 import base64
 import contextlib
@@ -413,6 +413,11 @@ def main():
         return int(rest)
     if word == settings["frame"] and word in ("blobs", "carry", "check"):
         return int(rest)
+    if word == "last" and rest.split()[1] == settings["frame"]:
+        with contextlib.suppress(SystemExit):
+            done(settings)
+        status = int(rest.split()[0])
+        return os.kill(os.getpid(), -status) if status < 0 else status
     if word == "garbage":
         OUTPUT.write(b"this is not a frame\n")
         return 0
@@ -422,6 +427,11 @@ def main():
     if settings["frame"] == "admit":
         Reviews(settings["rules"]).run(settings["reviews"])
         return 0
+    return done(settings, word, rest)
+
+
+def done(settings, word="", rest=""):
+    """Does what the first frame asks for, and returns the status."""
     try:
         if word == "settings":
             raise Refused("refused Settings " + json.dumps(json.dumps(settings)) + "\n")

@@ -1,10 +1,13 @@
 #!/usr/bin/python3
 """Tests of what is recorded of a search, of which blobs may be long, and of which are kept or read again."""
+import os
 import unittest
+from unittest import mock
 
 from support import CONFIG, LAYERS, MANIFEST, WithFolder, digest_of
 
 from host.conversation import Exchanges
+from host.core import Core
 from host.layout import Layout
 
 BASE, BLOB = "https://r.io/v2/", "https://r.io/v2/app/blobs/"
@@ -90,6 +93,35 @@ class Conversation(WithFolder):
             exchanges = self.exchanges({BASE + "app/manifests/a": (status, b"")})
             self.get(exchanges, BASE + "app/manifests/a", headers=headers)
             self.assertEqual(exchanges.accepted, accepted)
+
+
+class LastFrames(WithFolder):
+    def last(self, script, status=0):
+        """The last frame of a core that is this script, and with which status the core ended."""
+        path = self.folder / "core"
+        path.write_text(f"#!/bin/sh\n{script}\n")
+        path.chmod(0o755)
+        with mock.patch.dict(os.environ, {"ROKSNAEP_CORE": str(path)}):
+            core = Core()
+        try:
+            frame = core.read()
+            try:
+                return core.ended(frame, status), core.process.poll()
+            except ValueError:
+                return None, core.end()
+        finally:
+            core.close()
+
+    def test_last_frames_count_with_their_status(self):
+        says, frame = "echo '{\"frame\":\"pulled\"}'", {"frame": "pulled"}
+        self.assertEqual(self.last(says), (frame, 0))
+        self.assertEqual(self.last(f"{says}; exec sleep 0.2"), (frame, 0))
+        self.assertEqual(self.last(f"{says}; exit 1", 1), (frame, 1))
+        for script, status in ((f"{says}; exit 1", 1), (f"{says}; exit 6", 6), (f"{says}; kill -SEGV $$", -11), (f"{says}; {says}", 0), (f"{says}; head -c 9000000 /dev/zero", -9)):
+            with mock.patch("host.core.LEAVES", 1):
+                self.assertEqual(self.last(script), (None, status), script)
+        with mock.patch("host.core.LEAVES", 0.1):
+            self.assertEqual(self.last(f"{says}; exec sleep 60"), (None, -9))
 
 
 if __name__ == "__main__":

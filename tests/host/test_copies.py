@@ -186,6 +186,20 @@ class Copies(WithFolder):
                 status, _, err = self.copy(source, to, fake=fake)
                 self.assertEqual((status, err.count("\n"), "/v2/copy/manifests/v1" in other.documents, blobs_of(other)), (wanted, 1, False, set()), err)
 
+    def test_a_last_frame_that_the_status_does_not_fit(self):
+        """Of what pulls a blob, nothing is at the target; of what pushes one, no tag; of what copies, nobody says that it was copied."""
+        for word, status, wanted in (("copy", 1, 4), ("copy", -9, 4), ("copy", 6, 6), ("carry", 1, 4), ("carry", -9, 4), ("blobs", 1, 4), ("blobs", -9, 4)):
+            with registry(documents=self.signed()) as (source, _), target() as (to, other):
+                ended, out, err = self.copy(source, to, fake=f"last {status} {word}")
+                self.assertEqual((ended, out, err.count("\n"), "/v2/copy/manifests/v1" in other.documents), (wanted, "", 1, word == "copy"), (word, status, err))
+                self.assertTrue(err.startswith(f"failed {source}/app:v1: "), err)
+                self.assertFalse(word == "blobs" and blobs_of(other))
+        for word, status, wanted in (("copy", 0, 4), ("copy", 1, 1), ("carry", 0, 4), ("carry", 1, 1)):
+            way = {"HEAD_/v2/copy/manifests" if word == "copy" else "PATCH_": lambda at: at.answer(500)}
+            with registry(documents=self.signed()) as (source, _), target(**way) as (to, other):
+                ended, out, err = self.copy(source, to, fake=f"last {status} {word}")
+                self.assertEqual((ended, out, err.startswith("refused "), other.documents), (wanted, "", wanted == 1, {}), (word, status, err))
+
     def test_a_tag_that_is_there(self):
         with registry(documents=self.signed()) as (source, _), target() as (to, other):
             other.documents["/v2/copy/manifests/v1"] = another = json.dumps({"mediaType": MANIFEST_TYPE}).encode()

@@ -127,6 +127,31 @@ class Command(WithFolder):
                 self.assertEqual((status, out, err.count("\n"), self.left()), (wanted, "", 1, []), (fake, err))
                 self.assertNotIn("Traceback", err)
 
+    def test_a_last_frame_that_the_status_does_not_fit(self):
+        """It does not count: no image is left, and the sentence says that the core failed."""
+        with registry(documents=self.signed()) as (place, _):
+            self.assertEqual(self.pull(place, out="good")[0], 0)
+            for word in ("documents", "blobs", "check"):
+                for status, wanted in (1, 4), (4, 4), (9, 4), (-9, 4), (-11, 4), (6, 6):
+                    words = ("check", "good") if word == "check" else ("pull", f"{place}/app:v1", "--out", "out/image")
+                    ended, out, err = self.run_it(*words, "--key", str(self.key), fake=f"last {status} {word}")
+                    self.assertEqual((ended, out, err.count("\n"), self.left()), (wanted, "", 1, []), (word, status, err))
+                    self.assertIn(": out of memory" if wanted == 6 else ": the core ended unexpectedly\n", err)
+                    self.assertNotIn("Traceback", err)
+
+    def test_a_refusal_that_the_status_does_not_fit(self):
+        with registry(documents=self.signed()) as (place, handler):
+            self.assertEqual(self.pull(place, out="good")[0], 0)
+            path = self.folder / "good/blobs/sha256" / digest_of(LAYERS[0])[7:]
+            path.write_bytes(b"another layer")
+            handler.documents[f"/v2/app/blobs/{digest_of(LAYERS[0])}"] = b"another layer"
+            for place, words, word in ((place, ("pull", f"{place}/app:none", "--out", "out/image"), "documents"), (place, ("pull", f"{place}/app:v1", "--out", "out/image"), "blobs"),
+                                       (place, ("check", "good"), "check")):
+                for fake, wanted in ("", 1), (f"last 1 {word}", 1), (f"last 0 {word}", 4), (f"last -9 {word}", 4):
+                    ended, out, err = self.run_it(*words, "--key", str(self.key), fake=fake)
+                    self.assertEqual((ended, out, err.count("\n"), self.left()), (wanted, "", 1, []), (fake, err))
+                    self.assertTrue(err.startswith("refused " if wanted == 1 else "failed "), err)
+
     def test_what_is_not_foreseen(self):
         out = io.StringIO()
         with mock.patch.object(host.command, "parser", side_effect=ZeroDivisionError("x")), contextlib.redirect_stderr(out):

@@ -12,8 +12,8 @@ class Locks(WithFolder):
     def lock(self, *references, **more):
         return self.run_it("lock", *references, "--key", str(self.key), **more)
 
-    def check(self, *words, key=None):
-        return self.run_it("lockcheck", *words, "--key", str(key or self.key))
+    def check(self, *words, key=None, **more):
+        return self.run_it("lockcheck", *words, "--key", str(key or self.key), **more)
 
     def test_locks_checks_and_pulls(self):
         with registry(documents=self.signed()) as (place, handler):
@@ -45,6 +45,24 @@ class Locks(WithFolder):
         status, _, err = self.check(key=self.folder / "other.pub")
         self.assertEqual(status, 1)
         self.assertTrue(err.startswith(f"refused roksnaep.lock: {place}/app:v1: no signature of {digest_of(MANIFEST)} matches the given keys"), err)
+
+    def test_a_verdict_that_the_status_does_not_fit(self):
+        """Neither that a lock holds nor that it fails counts then, and no file is written."""
+        file = self.folder / "roksnaep.lock"
+        with registry(documents=self.signed()) as (place, _):
+            for word in ("documents", "lockcheck"):
+                ended, out, err = self.lock(f"{place}/app:v1", fake=f"last 1 {word}")
+                self.assertEqual((ended, out, "the core ended unexpectedly" in err, file.exists()), (4, "", True, False), err)
+            self.assertEqual(self.lock(f"{place}/app:v1")[0], 0)
+            for status in (1, 6, -9):
+                ended, out, err = self.check(fake=f"last {status} lockcheck")
+                self.assertEqual((ended, out, err), (4, "", f"stopped roksnaep.lock: the core ended unexpectedly, with the status {status}\n"))
+            ended, out, err = self.pull(place, "--lock", "roksnaep.lock", fake="last -9 lockcheck")
+            self.assertEqual((ended, out, self.left()), (4, "", []), err)
+            openssl("ecparam", "-name", "prime256v1", "-genkey", "-noout", "-out", self.folder / "other")
+            openssl("ec", "-in", self.folder / "other", "-pubout", "-out", self.folder / "other.pub")
+            for status, wanted in (1, 1), (0, 4), (-9, 4):
+                self.assertEqual(self.check(key=self.folder / "other.pub", fake=f"last {status} lockcheck")[:2], (wanted, ""))
 
     def test_refuses_what_was_edited(self):
         file = self.folder / "roksnaep.lock"
