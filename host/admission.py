@@ -41,23 +41,27 @@ class Decider:
         self.core.write(admit | {"frame": "admit", "reviews": REVIEWS})
 
     def decide(self, line: bytes, end: float) -> Decided:
-        """What the core replies to the review in a frame. ValueError or OSError if it broke."""
-        core, images = self.core, list[str]()
+        """What the core replies to the review in a frame. ValueError or OSError if it broke, or if it allows an image of which the host found no signature valid in this review."""
+        core, asked = self.core, list[tuple[str, Signatures]]()
         core.input.write(line)
         core.input.flush()
         while (frame := core.read())["frame"] not in ("response", "unreadable"):
             body = b"".join(core.body(frame))
             match frame["frame"]:
                 case "image":
-                    images.append(frame["image"])
                     network, signatures = self.connect(frame["image"], end), Signatures(self.rules[frame["rule"]])
+                    asked.append((frame["image"], signatures))
                 case "request" | "more":
                     core.write(*network.reply(frame))
                 case "verify" | "judge":
                     core.write(signatures.reply(frame, body))
                 case name:
                     raise ValueError(f"the core wrote the frame {name}")
-        return str(frame.get("response", "")), images
+        response = str(frame.get("response", ""))
+        if response and json.loads(response)["response"]["allowed"]:
+            if unsigned := images_of(line) - {image for image, signatures in asked if signatures.signers}:
+                raise ValueError(f"it allowed {min(unsigned)}, of which no signature was found valid")
+        return response, [image for image, _ in asked]
 
 
 class Deciders:
@@ -87,6 +91,13 @@ def frame_of(text: str, mutate: bool, moment: int) -> bytes:
     if len(line) > LINE:
         raise ValueError("the review is too long")
     return line
+
+
+def images_of(line: bytes) -> set[str]:
+    """The images that the review in a frame names, which the core has read too."""
+    spec = json.loads(json.loads(line)["review"])["request"]["object"]["spec"]
+    containers = [one for name in ("initContainers", "containers", "ephemeralContainers") for one in spec.get(name, [])]
+    return {one["image"] for one in containers} | {one["image"]["reference"] for one in spec.get("volumes", []) if "image" in one}
 
 
 def denied(text: str, why: str) -> str:

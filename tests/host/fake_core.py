@@ -3,7 +3,8 @@
 
 FAKE says how it misbehaves: `ends N` exits with a status after the settings, `garbage` writes what is not a frame, `frame JSON` writes this one,
 `blobs N`, `check N` and `carry N` exit so when they get such a frame, `refused TEXT` refuses with this report, `settings` with a report of the settings, `early` exits with the half of a
-document written. `last N FRAME` does what such a first frame asks for, and exits with N after the last frame (-9: is killed).
+document written. `last N FRAME` does what such a first frame asks for, and exits with N after the last frame (-9: is killed). `allow PART` allows each image of a review that
+has this part in its name, without a question.
 """
 import base64
 import contextlib
@@ -370,9 +371,13 @@ class Reviews:
         place = image.partition("@")[0]
         place = place[: place.rindex(":")] if ":" in place.rpartition("/")[2] else place
         rule = next((rule for rule in self.rules if f"{place}/".startswith(f"{rule['images']}/")), None)
+        word, _, part = os.environ.get("FAKE", "").partition(" ")
+        if rule:
+            write({"frame": "image", "image": image, "rule": rule["images"]})
+        if word == "allow" and part in image:
+            return f"sha256:{'0' * 64}", ""
         if not rule:
             return "", "NoRule"
-        write({"frame": "image", "image": image, "rule": rule["images"]})
         try:
             return Pull(rule["settings"] | {"reference": image, "moment": moment}).decided(), ""
         except Refused as refused:

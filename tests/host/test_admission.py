@@ -100,6 +100,21 @@ class Admission(WithFolder):
             self.assertFalse(said["allowed"])
             self.assertIn("the core ended unexpectedly", said["status"]["message"])
 
+    def test_a_core_that_allows_without_a_question(self):
+        """The host denies what the core allows, unless it has found a signature of each image of the Pod valid in the same review."""
+        with registry(documents=self.signed()) as (place, _):
+            image, rule = f"{place}/app:v1", {"images": f"{place}/app", "keys": ["public"]}
+            other, volume = f"{place}/other:v1", [{"name": "v"}, {"name": "w", "image": {"reference": f"{place}/other:v1"}}]
+            with self.webhook([rule, {"images": f"{place}/other/covered", "keys": ["public"]}], "--jobs", "1", fake="allow /other"):
+                for review, name in ((review_about(other), other), (review_about(image, other), other), (review_about(f"{place}/other/covered:v1"), f"{place}/other/covered:v1"),
+                                     (review_about(image, volumes=volume), other), (review_about(image, initContainers=[{"name": "i", "image": other}]), other),
+                                     (review_about(image, ephemeralContainers=[{"name": "e", "image": other}]), other)):
+                    for path in ("/validate", "/mutate"):
+                        said = self.post(review, path)[1]
+                        self.assertFalse(said["allowed"])
+                        self.assertIn(f"it allowed {name}, of which no signature was found valid", said["status"]["message"])
+                    self.assertTrue(self.post(review_about(image, image, volumes=volume[:1], initContainers=[]))[1]["allowed"])
+
     def test_reads_a_new_certificate(self):
         with self.webhook([{"images": "localhost", "keys": ["public"]}]):
             os.rename(self.folder / "tls.crt", self.folder / "old.crt")
