@@ -16,7 +16,7 @@ class End(BaseException):
 
 
 def failed(name: str, status: int) -> tuple[int, str, dict[str, Any]]:
-    """How the command ends if the core ended with this status before it said how the pull ended."""
+    """How the command ends if the core ended with this status before it said how the pull ended, or not as it said."""
     return (status if status in ENDS else 4), f"failed {name}: {ENDS.get(status, 'the core ended unexpectedly')}", {}
 
 

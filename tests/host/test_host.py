@@ -145,8 +145,7 @@ class Command(WithFolder):
             path = self.folder / "good/blobs/sha256" / digest_of(LAYERS[0])[7:]
             path.write_bytes(b"another layer")
             handler.documents[f"/v2/app/blobs/{digest_of(LAYERS[0])}"] = b"another layer"
-            for place, words, word in ((place, ("pull", f"{place}/app:none", "--out", "out/image"), "documents"), (place, ("pull", f"{place}/app:v1", "--out", "out/image"), "blobs"),
-                                       (place, ("check", "good"), "check")):
+            for word, words in (("documents", ("pull", f"{place}/app:none", "--out", "out/image")), ("blobs", ("pull", f"{place}/app:v1", "--out", "out/image")), ("check", ("check", "good"))):
                 for fake, wanted in ("", 1), (f"last 1 {word}", 1), (f"last 0 {word}", 4), (f"last -9 {word}", 4):
                     ended, out, err = self.run_it(*words, "--key", str(self.key), fake=fake)
                     self.assertEqual((ended, out, err.count("\n"), self.left()), (wanted, "", 1, []), (fake, err))
