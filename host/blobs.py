@@ -124,7 +124,7 @@ class Received:
         if not (self.layout and self.digest in self.sizes and frame["method"] == "GET"):
             return self.registry.reply(frame, body)
         self.path = self.layout.hidden(self.digest, self.mark)
-        if found := self.layout.find(self.digest):
+        if found := self.layout.find(self.digest, self.sizes[self.digest]):
             return self.stored(found)
         return self.rest(frame, self.path.stat().st_size if self.path.exists() else 0)
 

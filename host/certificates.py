@@ -1,6 +1,5 @@
 """Certificates of signers under a sigstore trusted root: who is vouched for at the time of the log entry. Nothing is asked over the network."""
 import base64
-import json
 from calendar import timegm
 from datetime import datetime, timezone
 from pathlib import Path
@@ -11,6 +10,7 @@ from cryptography.hazmat.primitives.hashes import SHA256, SHA384, SHA512
 from cryptography.hazmat.primitives.serialization import Encoding
 from cryptography.x509.oid import ExtendedKeyUsageOID as Purpose
 
+from host.files import read_json
 from host.keys import normalized, verifies
 from host.rules import Identity, LogKey, key_id
 
@@ -76,7 +76,7 @@ class TrustedRoot:
 
     def __init__(self, path: Path) -> None:
         try:
-            root = json.loads(path.read_bytes())
+            root = read_json(path)
             if not root["mediaType"].startswith("application/vnd.dev.sigstore.trustedroot"):
                 raise ValueError("its mediaType is another")
             self.logs, self.certificate_logs = logs_of(root["tlogs"]), logs_of(root["ctlogs"])

@@ -1,11 +1,12 @@
 """An image in a layout, checked again with no network: cores side by side decide its documents, each with the blobs of a range."""
 import json
 import time
-from contextlib import ExitStack
+from contextlib import ExitStack, suppress
 from typing import Any, BinaryIO, Callable
 
 from host.blobs import Asked, Ranges, Refused
 from host.core import PIECE, WRITTEN, Core, Frame, framed
+from host.files import opened
 from host.layout import Stored
 from host.rules import Rule
 from host.signatures import Signatures
@@ -31,6 +32,7 @@ class Checks(Ranges[Stored]):
 
     def checked(self, span: range, registry: Stored) -> tuple[list[str], Refused | None]:
         core, signatures, files = Core(False), Signatures(self.rule), ExitStack()
+        sizes = {blob["digest"]: blob["size"] for blob in self.blobs}
         try:
             file: BinaryIO | None = None
             while (frame := core.read())["frame"] != "checked":
@@ -43,8 +45,9 @@ class Checks(Ranges[Stored]):
                         core.write(signatures.reply(frame, message))
                     case "want":
                         files.close()
-                        path = registry.path(frame["digest"])
-                        file = files.enter_context(open(path, "rb")) if path.is_file() else None
+                        file = None
+                        with suppress(OSError):
+                            file = files.enter_context(opened(registry.path(frame["digest"]), sizes[frame["digest"]]))
                     case "more":
                         core.write(*framed(file.read(PIECE)) if file else ({"frame": "failed"}, b""))
             is_held = core.ended(frame, 0 if frame["verdict"] == "holds" else 1)["verdict"] == "holds"

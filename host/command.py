@@ -137,12 +137,16 @@ class Run:
                 is_expired = True
             if is_expired:
                 self.core, is_first = Core(), False
+        if end["frame"] == "pulled" and isinstance(self.registry, Stored) and end["manifest"] != self.registry.manifest:
+            raise End(1, f"its index.json names {self.registry.manifest}, and the image that was signed is {end['manifest']}; pull the image again")
         registry: Answered = self.registry
         if end["frame"] == "pulled" and self.has_blobs and self.settings["frame"] == "documents" and (refused := self.blobs(end)):
             end, registry = refused
         name, signer = self.option.place, signatures.signer(end.get("signature", ""))
         if end["frame"] == "ended":
             return failed(name, end["status"])
+        if end["frame"] == "refused" and isinstance(self.registry, Stored) and self.registry.failure:
+            return 1, f"refused {name}: {self.registry.failure}", end
         if end["frame"] == "refused":
             return 1, Refusals(registry.statuses, registry.failure, signatures.why).sentence(name, end["report"]), end
         if self.layout:

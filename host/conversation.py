@@ -129,9 +129,9 @@ def converse(core: Core, settings: Frame, exchanges: Exchanges, signatures: Sign
                     if layout and frame["frame"] == "document":
                         if frame["kind"] == "manifest":
                             layout.manifest = {"mediaType": frame["media_type"], "digest": frame["digest"], "size": frame["bytes"]}
-                        layout.add(frame["digest"], [content])
+                        layout.add(frame["digest"], [content], len(content))
                 case "blob" if layout:
-                    layout.add(frame["digest"], body)
+                    layout.add(frame["digest"], body, frame.get("bytes", 0))
             for _ in body:
                 pass
         return core.ended(frame, 1 if frame["frame"] == "refused" else 0)

@@ -8,6 +8,8 @@ import subprocess
 from pathlib import Path
 from typing import Any
 
+from host.files import read
+
 FORMS = ("{}", "https://{}", "https://{}/", "https://{}/v1/", "https://{}/v2/", "http://{}")
 HUB, WAIT = ("docker.io", "index.docker.io"), 30
 TOKEN = "an identity token is kept for {}, which cannot be exchanged here; use a user and a password: --username and --password-stdin"
@@ -56,7 +58,7 @@ def credentials(repository: str, authfile: Path | None) -> Any:
     names += [form.format(host) for host in hosts for form in FORMS]
     for file in files(authfile):
         try:
-            content = json.loads(file.read_bytes() or b"{}")
+            content = json.loads(read(file) or b"{}")
             auths, helpers = content.get("auths") or {}, content.get("credHelpers") or {}
             helper = next((helpers[host] for host in hosts if host in helpers), None) or content.get("credsStore")
             server = "https://index.docker.io/v1/" if registry in HUB else registry

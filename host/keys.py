@@ -12,6 +12,8 @@ from cryptography.hazmat.primitives.hashes import SHA256, HashAlgorithm
 from cryptography.hazmat.primitives.serialization import Encoding, PublicFormat, load_der_public_key, load_pem_public_key
 from cryptography.utils import CryptographyDeprecationWarning
 
+from host.files import read
+
 BLOCK = re.compile(rb"-----BEGIN ((?:RSA )?PUBLIC KEY)-----[^-]*-----END \1-----")
 CURVES = (ec.SECP256R1, ec.SECP384R1, ec.SECP521R1)
 ACCEPTED = "ECDSA on P-256, P-384 or P-521, RSA of 2048 to 16384 bits, or Ed25519"
@@ -45,7 +47,7 @@ def normalized(data: bytes) -> bytes:
 
 def public_keys(path: Path) -> list[bytes]:
     """Every key of a PEM file, normalized; ValueError with a sentence if one of its blocks is not an accepted public key, or if it has none."""
-    data = path.read_bytes()
+    data = read(path)
     blocks = [match[0] for match in BLOCK.finditer(data)]
     if b"PRIVATE KEY-----" in data:
         raise ValueError(f"{path} holds a private key; give the public key (cosign public-key --key FILE, or openssl pkey -pubout)")

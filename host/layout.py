@@ -11,10 +11,12 @@ import os
 import re
 import shutil
 import stat
+import sys
 from pathlib import Path
 from typing import Any, BinaryIO, Iterable
 
 from host.core import PIECE, Frame, framed
+from host.files import LONGEST, opened, read_json
 
 DIGEST = re.compile(r"([a-z0-9]+(?:[+._-][a-z0-9]+)*):([0-9a-f]+)")  # OCI image specification, "Digests"
 NAME, OURS, BUNDLE = "org.opencontainers.image.ref.name", "dev.roksnaep.", "application/vnd.dev.sigstore.bundle"
@@ -53,7 +55,9 @@ def sync_all(paths: list[Path]) -> None:
 def read_index(folder: Path) -> dict[str, Any]:
     """The index of an OCI image layout, each entry with annotations; ValueError if the folder is not one."""
     try:
-        index: dict[str, Any] = json.loads((folder / "index.json").read_bytes())
+        if "imageLayoutVersion" not in read_json(folder / "oci-layout"):
+            raise ValueError("its oci-layout has no imageLayoutVersion")
+        index: dict[str, Any] = read_json(folder / "index.json")
         for entry in index["manifests"]:
             entry["annotations"] = {name: str(text) for name, text in (entry.get("annotations") or {}).items()}
             blob_name(entry["digest"])
@@ -118,10 +122,10 @@ class Layout:
             for path in self.made:
                 path.rmdir()
 
-    def find(self, digest: str) -> Path | None:
-        """The file of a blob that exists already, if its bytes have this digest."""
+    def find(self, digest: str, size: int | None = None) -> Path | None:
+        """The file of a blob that exists already, if its bytes have this digest. One of another size, if that is known, is not read."""
         for path in (folder / blob_name(digest) for folder in (self.work, self.home) if folder):
-            if path.is_file():
+            if path.is_file() and size in (None, path.stat().st_size):
                 with open(path, "rb") as file:
                     if hashlib.file_digest(file, path.parent.name).hexdigest() == path.name:
                         return path
@@ -149,10 +153,10 @@ class Layout:
         with self.create(name) as file:
             file.writelines(pieces)
 
-    def add(self, digest: str, pieces: Iterable[bytes]) -> None:
+    def add(self, digest: str, pieces: Iterable[bytes], size: int | None = None) -> None:
         """A document or a blob. One that exists already is not written again."""
         self.names.add(blob_name(digest))
-        if not self.find(digest):
+        if not self.find(digest, size):
             self.put(blob_name(digest), pieces)
 
     def finish(self, reference: str, signed: str, signatures: dict[str, list[list[bytes]]]) -> None:
@@ -161,7 +165,7 @@ class Layout:
         for source, manifests in signatures.items():
             notes[OURS + source] = " ".join(digest_of(documents[0]) for documents in manifests)
             for content in itertools.chain(*manifests):
-                self.add(digest_of(content), [content])
+                self.add(digest_of(content), [content], len(content))
         others = [entry for entry in self.index["manifests"] if entry["annotations"].get(NAME) != notes[NAME]]
         self.put("oci-layout", [b'{"imageLayoutVersion":"1.0.0"}'])
         self.put("index.json", [json.dumps(self.index | {"manifests": [*others, self.manifest | {"annotations": notes}]}).encode()])
@@ -207,7 +211,7 @@ class Stored:
         notes, self.folder, self.manifest = entries[0]["annotations"], folder, entries[0]["digest"]
         self.digest = notes.get(f"{OURS}signed-digest", self.manifest)
         self.reference = re.sub("(:[^/]*)?(@.*)?$", "", notes.get(f"{OURS}reference", "localhost/image")) + f"@{self.digest}"
-        self.tagged, self.referrers = ([digest for digest in notes.get(OURS + source, "").split() if self.path(digest).is_file()]
+        self.tagged, self.referrers = ([digest for digest in dict.fromkeys(notes.get(OURS + source, "").split()) if self.path(digest).is_file()]
                                        for source in ("tag", "referrers"))
         self.statuses, self.failure, self.base, self.blob = dict[str, int](), "", "", ""
         self.body: BinaryIO = io.BytesIO()
@@ -232,10 +236,14 @@ class Stored:
         if kind == "referrers":
             entries = [{"mediaType": MANIFEST, "digest": digest, "size": self.path(digest).stat().st_size} for digest in self.referrers]
             self.body = io.BytesIO(json.dumps({"schemaVersion": 2, "mediaType": INDEX, "manifests": entries}).encode())
-        elif name and path.is_file():
-            self.body = open(path, "rb")
         elif name:
-            status = 404
+            try:
+                self.body = opened(path, sys.maxsize if self.blob else LONGEST)
+            except (FileNotFoundError, NotADirectoryError):
+                status = 404
+            except OSError as error:
+                self.failure = str(error)
+                return {"frame": "failed"}, b""
         self.statuses[frame["url"]] = status
         return {"frame": "answer", "status": status, "headers": []}, b""
 

@@ -10,6 +10,7 @@ from typing import Any, Iterable
 
 from host.conversation import Exchanges, Sent, converse
 from host.core import Core, Frame
+from host.files import read
 from host.layout import BUNDLE, MANIFEST, Layout, Stored, digest_of
 from host.network import Network
 from host.places import repository_of
@@ -20,7 +21,7 @@ from host.signatures import Signatures
 from host.terminal import End
 
 Entry = dict[str, Any]
-LONGEST = 256 << 20
+LONGEST = 64 << 20  # bytes of a lock file, as pull_program reads one
 # of a signature layer: its media type, and where the search finds it
 KINDS = {"payload": ("application/vnd.dev.cosign.simplesigning.v1+json", "tag"), "bundle": (f"{BUNDLE}.v0.3+json", "referrers")}
 REFUSED = {"Unreadable": "is not a lock file", "NotCanonical": "was edited: it is not the text that `roksnaep lock` writes",
@@ -123,12 +124,10 @@ def failure_of(entry: Entry, settings: Frame, rule: Rule) -> str:
 
 def read_lock(path: Path) -> Lock:
     """The lock file of this name. One that is missing is an error of usage."""
-    if not path.is_file():
+    if not path.exists():
         raise ValueError(f"there is no lock file {path}; write one: roksnaep lock")
-    if path.stat().st_size > LONGEST:
-        raise ValueError(f"{path} has more than {LONGEST} bytes, and is not read")
     try:
-        return Lock(str(path), path.read_bytes().decode())
+        return Lock(str(path), read(path, LONGEST).decode())
     except UnicodeDecodeError:
         raise End(1, f"{path} {REFUSED['Unreadable']}; write it anew: roksnaep lock") from None
 

@@ -13,6 +13,7 @@ from typing import Any, Callable, Iterable, Iterator
 import pycurl
 
 from host.core import PIECE, Frame, framed
+from host.files import read
 from host.places import FIELD, URL, Access, Place, is_public, place_of, shown
 from host.terminal import progress
 
@@ -177,7 +178,7 @@ class Network:
         self.multi, self.answer, self.room = pycurl.CurlMulti(), Answer(0), mmap.mmap(-1, PIECE, mmap.MAP_PRIVATE)  # which takes no memory before it is used
         self.curl: pycurl.Curl | None = None
         for path in filter(None, (access.authority, access.certificate, access.private_key)):
-            path.read_bytes()  # so that a file that is missing is refused before any request
+            read(path)  # so that a file that is missing is refused before any request
 
     def beside(self) -> "Network":
         """Other connections to the same registry, by the same rules. What is remembered is for all of them."""

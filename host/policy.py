@@ -5,6 +5,7 @@ from typing import Any
 
 import yaml as untyped_yaml
 
+from host.files import read
 from host.places import repository_of
 from host.rules import Identity, Rule
 
@@ -22,7 +23,7 @@ class Policy:
     def __init__(self, path: Path) -> None:
         self.path = path
         try:
-            text = path.read_text(encoding="utf-8")
+            text = read(path).decode()
             text = text.replace("\t", " ") if text.lstrip().startswith("{") else text  # JSON may be indented by tabs, and YAML may not
             policy = self.value(yaml.compose(text, yaml.SafeLoader), {"version": int, "rules": [RULE]}, "the policy")
         except yaml.YAMLError as error:

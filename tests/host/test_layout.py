@@ -154,6 +154,15 @@ class Outputs(WithFolder):
         self.assertEqual({path: path.read_bytes() for path in self.folder.rglob("*") if path.is_file()}, before)
         self.assertEqual(self.left("out/image"), ["blobs", "index.json", "oci-layout"])
 
+    def test_a_file_of_another_size_is_not_read(self):
+        """One of many GiB would take hours to be hashed."""
+        with registry(documents=self.signed()) as (place, _):
+            self.assertEqual(self.pull(place, "--tag", "one")[0], 0)
+            for content in (MANIFEST, LAYERS[1], self.signature[2]):
+                os.truncate(self.folder / "out/image/blobs/sha256" / digest_of(content)[7:], 1 << 43)
+            self.assertEqual(self.pull(place, "--tag", "two")[0], 0)
+        self.assertEqual(self.run_it("check", "out/image", "--tag", "two", "--key", str(self.key))[0], 0)
+
     def test_one_pull_at_a_time(self):
         with registry() as (place, _):
             self.assertEqual(self.pull(place, "--tag", "one")[0], 0)
@@ -205,6 +214,48 @@ class Check(WithFolder):
 
     def setUpOther(self):
         subprocess.run("openssl ecparam -name prime256v1 -genkey -noout | openssl ec -pubout -out other", shell=True, check=True, cwd=self.folder, capture_output=True)
+
+    def test_the_image_that_a_layout_gives(self):
+        """What other programs take from a layout is what `index.json` names; those in Go ignore the case of members."""
+        other = manifest_of(CONFIG, [LAYERS[0]])
+        with registry(documents=self.signed()) as (place, _):
+            self.assertEqual(self.pull(place)[0], 0)
+        (self.folder / "out/image/blobs/sha256" / digest_of(other)[7:]).write_bytes(other)
+        file = self.folder / "out/image/index.json"
+        index = json.loads(file.read_text())
+        entry, = index["manifests"]
+        others = [entry | {"digest": digest_of(other), "size": len(other)}]
+        file.write_text(json.dumps(index | {"manifests": others}))
+        status, out, err = self.check()
+        self.assertEqual((status, out), (1, ""))
+        self.assertTrue(err.startswith(f"refused out/image: its index.json names {digest_of(other)}, and the image that was signed is {digest_of(MANIFEST)}; "), err)
+        for changed in (index | {"Manifests": others}, index | {"manife\u017fts": others}, index | {"manifests": [entry | {"Digest": digest_of(other)}]},
+                        index | {"manifests": [entry | {"annotations": {"a": "\ud800"}}]}):
+            file.write_text(json.dumps(changed))
+            self.assertEqual(self.check()[0], 2)
+            with registry() as (place, _):
+                self.assertEqual(self.pull(place, "--tag", "two")[0], 2)
+        file.write_text(f'{{"manifests":{json.dumps(others)},{json.dumps(index)[1:]}')
+        self.assertEqual(self.check()[0], 2)
+
+    def test_what_is_not_a_regular_file(self):
+        """Nothing is waited for, and nothing fills the memory."""
+        def sparse(path):
+            path.touch()
+            os.truncate(path, 1 << 43)
+
+        with registry(documents=self.signed()) as (place, _):
+            self.assertEqual(self.pull(place)[0], 0)
+        blobs = [self.folder / "out/image/blobs/sha256" / digest_of(content)[7:] for content in (MANIFEST, CONFIG, LAYERS[0], *self.signature[::2])]
+        for path in (self.folder / "out/image/index.json", self.folder / "out/image/oci-layout", *blobs):
+            path.rename(self.folder / "kept")
+            for make, undo in ((os.mkfifo, os.unlink), (os.mkdir, os.rmdir), (sparse, os.unlink), (lambda path: path.symlink_to("/dev/zero"), os.unlink)):
+                make(path)
+                status, out, err = self.check()
+                self.assertEqual((status, out, err.count("\n")), (1 if path in blobs else 2, "", 1), (path, err))
+                undo(path)
+            (self.folder / "kept").rename(path)
+        self.assertEqual(self.check()[0], 0)
 
     def test_layouts_that_are_not(self):
         for text in (None, "x", "[]", '{"manifests":[]}', '{"manifests":[{}]}', '{"manifests":[{"digest":"../x"}]}', '{"manifests":[{"digest":7}]}',

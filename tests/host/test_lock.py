@@ -1,6 +1,7 @@
 #!/usr/bin/python3
 """Tests of lock files over a core and a program that believe almost everything: what is written, checked offline, and pulled."""
 import json
+import os
 import unittest
 
 from support import LAYERS, MANIFEST, WithFolder, digest_of, manifest_of, openssl, registry
@@ -83,6 +84,13 @@ class Locks(WithFolder):
         self.assertEqual((status, err), (1, f"refused {place}/other:v1: roksnaep.lock has no entry for it; add one: roksnaep lock\n"))
         file.unlink()
         self.assertEqual(self.check()[::2], (2, "roksnaep: there is no lock file roksnaep.lock; write one: roksnaep lock\n"))
+
+    def test_what_is_not_read(self):
+        file = self.folder / "roksnaep.lock"
+        for make in (os.mkfifo, os.mkdir, lambda path: path.symlink_to("/dev/zero"), lambda path: (path.touch(), os.truncate(path, (64 << 20) + 1))):
+            make(file)
+            self.assertEqual(self.check()[::2], (2, "roksnaep: roksnaep.lock is not a regular file of at most 67108864 bytes; replace it by one\n"))
+            file.rmdir() if file.is_dir() else file.unlink()
 
     def test_a_refused_image_leaves_the_old_file(self):
         file = self.folder / "roksnaep.lock"
