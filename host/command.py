@@ -119,8 +119,8 @@ class Run:
         option, name = self.option, re.split("[:@]", self.option.place.rpartition("/")[2])[0]
         if not (option.out or name.strip(".")):
             raise ValueError("the reference does not end with a name; give --out")
-        if option.digest_file and not os.access(option.digest_file.absolute().parent, os.W_OK):
-            raise ValueError(f"{option.digest_file} cannot be written")
+        if option.digest_file and (option.digest_file.is_dir() or not has_folder(option.digest_file)):
+            raise ValueError(f"{option.digest_file} cannot be written; choose another --digest-file")
         layout = self.layout = Layout(option.out or Path(name if option.format == "oci" else f"{name}.tar"), option.format, option.tag)
         return layout
 
@@ -179,8 +179,15 @@ class Run:
         return Blobs({"frame": "blobs", "settings": self.settings, "manifest": self.manifest}, self.registry.beside, self.layout).run()
 
 
+def has_folder(path: Path) -> bool:
+    """Whether a file may be made there."""
+    return os.access(path.absolute().parent, os.W_OK)
+
+
 def locked(option: argparse.Namespace, end: float) -> tuple[int, str, Frame]:
     """Verifies each image, and writes the lock file of all of them. One that is refused leaves the old file."""
+    if option.lock.exists() and not option.lock.is_file() or not has_folder(option.lock):
+        raise ValueError(f"{option.lock} cannot be written; choose another --lock")
     entries = {}
     for place in option.place:
         run = Run(argparse.Namespace(**vars(option) | {"place": place}), end)
@@ -196,6 +203,7 @@ def locked(option: argparse.Namespace, end: float) -> tuple[int, str, Frame]:
     lock = Lock(str(option.lock), text)
     for entry in lock.entries.values():
         lock.check(entry, rule_by(option, entry["image"]), None)
+    hold()
     write_lock(option.lock, text)
     return 0, f"locked {counted(entries)} in {option.lock}", {"images": {image: entry["digest"] for image, entry in lock.entries.items()}}
 
@@ -282,8 +290,11 @@ def result(option: argparse.Namespace) -> tuple[int, str, Frame]:
         if status == 0 and run.layout:
             hold()
             run.layout.place()
-            if option.digest_file:
-                option.digest_file.write_text(rest["digest"])
+            try:
+                if option.digest_file:
+                    option.digest_file.write_text(rest["digest"])
+            except OSError as error:
+                raise End(5, f"{option.digest_file} could not be written ({error.strerror}); the image is in {run.layout.target}") from None
     return status, sentence, rest
 
 

@@ -133,17 +133,20 @@ def read_lock(path: Path) -> Lock:
 
 
 def write_lock(path: Path, text: str) -> None:
-    """Writes the file whole, by a rename."""
-    with tempfile.NamedTemporaryFile("w", dir=path.absolute().parent, prefix=f".{path.name}-", delete=False, encoding="utf-8", newline="") as file:
-        try:
-            file.write(text)
-            file.flush()
-            os.fsync(file.fileno())
-            os.chmod(file.name, 0o644)
-            os.rename(file.name, path)
-        except BaseException:
-            os.unlink(file.name)
-            raise
+    """Writes the file whole, by a rename; else it stays as it was."""
+    try:
+        with tempfile.NamedTemporaryFile("w", dir=path.absolute().parent, prefix=f".{path.name}-", delete=False, encoding="utf-8", newline="") as file:
+            try:
+                file.write(text)
+                file.flush()
+                os.fsync(file.fileno())
+                os.chmod(file.name, 0o644)
+                os.rename(file.name, path)
+            except BaseException:
+                os.unlink(file.name)
+                raise
+    except OSError as error:
+        raise End(5, f"{path} could not be written ({error.strerror}), and is as it was; make room for it, or choose another --lock") from None
 
 
 class Pinned:

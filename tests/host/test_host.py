@@ -306,8 +306,13 @@ class Command(WithFolder):
         with registry() as (place, _):
             self.assertEqual(self.pull(place, "--digest-file", "digest")[0], 0)
             self.assertEqual((self.folder / "digest").read_text(), digest_of(MANIFEST))
-            status, _, err = self.pull(place, "--digest-file", "absent/digest", out="other")
-            self.assertEqual((status, self.left("other")), (2, []))
+            (self.folder / "full").symlink_to("/dev/full")
+            for name in ("absent/digest", "."):
+                status, _, err = self.pull(place, "--digest-file", name, out="other")
+                self.assertEqual((status, err, self.left("other")), (2, f"roksnaep: {name} cannot be written; choose another --digest-file\n", []))
+            status, _, err = self.pull(place, "--digest-file", "full", out="other")
+            self.assertEqual((status, self.left("other")), (5, ["blobs", "index.json", "oci-layout"]))
+            self.assertIn("full could not be written (No space left on device); the image is in other", err)
 
 
 class Parts(unittest.TestCase):

@@ -2,6 +2,7 @@
 """Tests of lock files over a core and a program that believe almost everything: what is written, checked offline, and pulled."""
 import json
 import os
+import resource
 import unittest
 
 from support import LAYERS, MANIFEST, WithFolder, digest_of, manifest_of, openssl, registry
@@ -91,6 +92,21 @@ class Locks(WithFolder):
             make(file)
             self.assertEqual(self.check()[::2], (2, "roksnaep: roksnaep.lock is not a regular file of at most 67108864 bytes; replace it by one\n"))
             file.rmdir() if file.is_dir() else file.unlink()
+
+    def test_a_full_disk(self):
+        """The old file stays, and nothing else."""
+        (self.folder / "roksnaep.lock").write_text("old")
+        with registry(documents=self.signed()) as (place, handler):
+            status, out, err = self.lock(f"{place}/app:v1", env={"PYTHONDONTWRITEBYTECODE": "1"}, preexec_fn=lambda: resource.setrlimit(resource.RLIMIT_FSIZE, (100, 100)))
+            self.assertEqual((status, out), (5, ""))
+            self.assertEqual(err, f"unwritten {place}/app:v1: roksnaep.lock could not be written (File too large), and is as it was; make room for it, or choose another --lock\n")
+            self.assertEqual(((self.folder / "roksnaep.lock").read_text(), self.left(".")), ("old", ["private", "public", "roksnaep.lock"]))
+            handler.seen.clear()
+            (self.folder / "pipe").symlink_to("/dev/null")
+            for path in (".", "absent/x", "pipe"):
+                status, _, err = self.lock(f"{place}/app:v1", "--lock", path)
+                self.assertEqual((status, err), (2, f"roksnaep: {path} cannot be written; choose another --lock\n"))
+            self.assertEqual(handler.seen, [])
 
     def test_a_refused_image_leaves_the_old_file(self):
         file = self.folder / "roksnaep.lock"

@@ -3,6 +3,7 @@
 import base64
 import hashlib
 import json
+import os
 import sys
 import tempfile
 import unittest
@@ -214,12 +215,13 @@ rules:
     def test_rules_that_are_wrong(self):
         (self.folder / "private").write_bytes(self.keys["a"].private_bytes(Encoding.PEM, PrivateFormat.PKCS8, NoEncryption()))
         (self.folder / "weak.pub").write_bytes(pem(rsa.generate_private_key(65537, 1024)))
+        os.mkfifo(self.folder / "pipe")
         for told, parts in (("nobody is trusted", {}), ("nobody is trusted", {"keys": []}), ("No such file", {"keys": ["absent"]}), ("holds a private key", {"keys": ["private"]}),
                             ("weak.pub holds a public key that is malformed or not accepted", {"keys": ["weak.pub"]}), ("needs the trusted root", {"identities": [{"subject": WHO, "issuer": ISSUER}]}),
                             ("no log is known", {"keys": ["a.pub"], "requireLog": True}), ("needs a subject and an issuer", {"identities": [{"subject": WHO}]}),
                             ("needs a subject and an issuer", {"identities": [{}]}), ("is not a regular expression", {"identities": [{"subjectRegExp": "(", "issuer": ISSUER}]}),
                             ("is not a sigstore trusted root", {"keys": ["a.pub"], "trustedRoot": "a.pub"}), ("No such file", {"keys": ["a.pub"], "logKeys": ["absent"]}),
-                            ("Is a directory", {"keys": ["."]})):
+                            ("is not a regular file", {"keys": ["."]}), ("is not a regular file", {"keys": ["pipe"]}), ("is not a regular file", {"keys": ["a.pub"], "trustedRoot": "pipe"})):
             self.refused(told, json.dumps({"version": 1, "rules": [{"images": "r.io"} | parts]}))
             self.refused("is not a policy: rule 1 (r.io): ", json.dumps({"version": 1, "rules": [{"images": "r.io"} | parts]}))
 
