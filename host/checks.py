@@ -13,7 +13,7 @@ from host.signatures import Signatures
 
 
 def fits(word: Frame) -> bool:
-    """Whether the documents can be members of a frame."""
+    """Whether it can be the line of a frame, with a few more members."""
     return len(json.dumps(word)) <= WRITTEN * 7 // 8
 
 

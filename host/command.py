@@ -27,6 +27,7 @@ from host.signatures import Signatures
 from host.terminal import ENDS, OUTCOMES, End, failed, printable, progress, tell
 
 MACHINE = {"x86_64": "amd64", "aarch64": "arm64", "armv7l": "arm", "i686": "386"}.get(os.uname().machine, os.uname().machine)
+TOO_LONG = "the keys, annotations and other settings are longer than a line of the core (1 MiB); give fewer ones"
 
 
 def rule_by(option: argparse.Namespace, reference: str) -> Rule:
@@ -94,6 +95,8 @@ class Run:
                 self.registry = pinned = self.pinned(network)
                 self.settings |= {"reference": pinned.stored.reference, "platform": {"digest": pinned.stored.manifest}}
         self.settings |= self.rule.settings()
+        if not fits(self.settings):
+            raise ValueError(TOO_LONG)
         self.core = Core()
 
     def network(self, end: float) -> Network:
@@ -244,6 +247,8 @@ def admit(option: argparse.Namespace) -> NoReturn:
     if len(by_images := dict(policy.rules)) < len(policy.rules):
         raise ValueError(f"{option.policy} has two rules for the same images")
     rules = [{"images": images, "settings": settings(images, rule)} for images, rule in policy.rules]
+    if not fits({"rules": rules}):
+        raise ValueError(TOO_LONG)
     deciders = Deciders({"rules": rules}, by_images, connect)
     asyncio.run(serve(Webhook(deciders.decide, option.jobs, option.deadline), host.strip("[]"), int(port), (option.cert, option.private_key),
                       SIGNALS - {signal.SIGALRM}))

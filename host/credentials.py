@@ -11,7 +11,7 @@ from typing import Any
 from host.files import read
 
 FORMS = ("{}", "https://{}", "https://{}/", "https://{}/v1/", "https://{}/v2/", "http://{}")
-HUB, WAIT = ("docker.io", "index.docker.io"), 30
+HUB, WAIT, LONGEST = ("docker.io", "index.docker.io"), 30, 64 << 10  # seconds for a program; bytes of a user, a password or a token
 TOKEN = "an identity token is kept for {}, which cannot be exchanged here; use a user and a password: --username and --password-stdin"
 
 
@@ -34,7 +34,7 @@ def helped(helper: str, server: str) -> Any:
     if done.returncode:
         if b"not found" in done.stdout:
             return None
-        raise ValueError(f"docker-credential-{helper} failed: {(done.stdout or done.stderr).decode(errors='replace').strip()}")
+        raise ValueError(f"docker-credential-{helper} failed: {(done.stdout or done.stderr).decode(errors='replace').strip()[:300]}")
     found = json.loads(done.stdout)
     if found["Username"] == "<token>":
         raise ValueError(TOKEN.format(server))
@@ -50,6 +50,16 @@ def entered(entry: dict[str, Any], name: str) -> Any:
     return {"basic": [user, password.rstrip("\0")]} if colon else None
 
 
+def valid(auth: Any) -> Any:
+    """The credentials; ValueError if a part of them is not a string that a request can have."""
+    parts = auth.get("basic") or [auth["bearer"]]
+    if not all(isinstance(part, str) and len(part.encode()) <= LONGEST for part in parts):
+        raise ValueError(f"a user, a password or a token is not a string of at most {LONGEST} bytes; log in again")
+    if "bearer" in auth and not re.fullmatch("[!-~]+", auth["bearer"]):
+        raise ValueError("the registry token has a character that no token has; log in again")
+    return auth
+
+
 def credentials(repository: str, authfile: Path | None) -> Any:
     """The `auth` of the settings for a repository, whose first part is its registry: those of the longest name in the first file that has any."""
     registry, *path = repository.split("/")
@@ -63,8 +73,8 @@ def credentials(repository: str, authfile: Path | None) -> Any:
             helper = next((helpers[host] for host in hosts if host in helpers), None) or content.get("credsStore")
             server = "https://index.docker.io/v1/" if registry in HUB else registry
             found = helper and helped(helper, server) or next(filter(None, (entered(auths[name], name) for name in names if name in auths)), None)
-        except (ValueError, LookupError, TypeError, AttributeError, subprocess.SubprocessError) as error:
+            if found:
+                return valid(found)
+        except (ValueError, LookupError, TypeError, AttributeError, RecursionError, subprocess.SubprocessError) as error:
             raise ValueError(f"{file} gives no credentials for {registry}: {error}") from None
-        if found:
-            return found
     return "anonymous"

@@ -1,4 +1,5 @@
 """What is trusted for one pull: a rule made of options, or the one of a policy file (docs/POLICY.md) that covers the image."""
+import json
 import re
 from pathlib import Path
 from typing import Any
@@ -26,9 +27,10 @@ class Policy:
             text = read(path).decode()
             text = text.replace("\t", " ") if text.lstrip().startswith("{") else text  # JSON may be indented by tabs, and YAML may not
             policy = self.value(yaml.compose(text, yaml.SafeLoader), {"version": int, "rules": [RULE]}, "the policy")
+            json.dumps(policy, ensure_ascii=False).encode()  # which fails for half of a surrogate pair
         except yaml.YAMLError as error:
             raise self.error(error, str(getattr(error, "problem", error)).partition("\n")[0]) from None
-        except (UnicodeDecodeError, RecursionError) as error:
+        except (UnicodeError, RecursionError) as error:
             raise self.error(None, str(error)) from None
         if policy.get("version") != "1" or not policy.get("rules"):
             raise self.error(None, "it needs `version: 1`, and `rules` with at least one rule")

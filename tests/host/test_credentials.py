@@ -74,7 +74,9 @@ class Files(WithFolder):
             self.assertEqual(credentials("r.io/app", None), "anonymous")
 
     def test_malformed_files(self):
-        for text in ("{", "[]", "7", '{"auths":{"r.io":{"auth":"a"}}}', '{"auths":{"r.io":3}}', '{"auths":7}', '{"credHelpers":7}', '{"credsStore":7}', "\u00ff", '{"auths":{"r.io":{"auth":7}}}'):
+        for text in ("{", "[]", "7", '{"auths":{"r.io":{"auth":"a"}}}', '{"auths":{"r.io":3}}', '{"auths":7}', '{"credHelpers":7}', '{"credsStore":7}', "\u00ff", '{"auths":{"r.io":{"auth":7}}}',
+                     "[" * 100000, '{"auths":' + '{"a":' * 100000, '{"auths":{"r.io":{"registrytoken":7}}}', '{"auths":{"r.io":{"registrytoken":["t"]}}}', '{"auths":{"r.io":{"registrytoken":"\\ud800"}}}',
+                     '{"auths":{"r.io":{"registrytoken":"a\\nb"}}}', '{"auths":{"r.io":{"auth":"\\ud800"}}}', '{"auths":' + "9" * 10000 + "}", json.dumps({"auths": {"r.io": pair("u:" + "p" * 70000)}})):
             self.path.write_text(text)
             with self.assertRaises(ValueError, msg=text) as caught:
                 credentials("r.io/app", None)
@@ -95,14 +97,19 @@ class Files(WithFolder):
         self.helper("locked", "echo the store is locked; exit 1\n")
         self.helper("token", 'echo "{\\"Username\\":\\"<token>\\",\\"Secret\\":\\"x\\"}"\n')
         self.helper("junk", "echo junk\n")
+        self.helper("number", 'echo "{\\"Username\\":\\"u\\",\\"Secret\\":7}"\n')
+        self.helper("half", 'echo "{\\"Username\\":\\"u\\",\\"Secret\\":\\"\\\\ud800\\"}"\n')
+        self.helper("deep", "yes [ | head -n 100000\n")
+        self.helper("long", "head -c 100000 /dev/zero | tr '\\0' x; exit 1\n")
         self.helper("pass", 'echo "{\\"Username\\":\\"\\",\\"Secret\\":\\"\\"}"\n')
-        self.keep({"n.io": pair("kept:1")}, credHelpers={"r.io": "one", "n.io": "none", "e.io": "pass", "l.io": "locked", "t.io": "token", "j.io": "junk", "a.io": "absent", "p.io": "../one", "s.io": "one; x"}, credsStore="one")
+        self.keep({"n.io": pair("kept:1")}, credHelpers={"r.io": "one", "n.io": "none", "e.io": "pass", "l.io": "locked", "t.io": "token", "j.io": "junk", "a.io": "absent", "p.io": "../one", "s.io": "one; x", "7.io": "number", "h.io": "half", "d.io": "deep", "x.io": "long"}, credsStore="one")
         self.assertEqual(credentials("r.io/app", None), {"basic": ["one", "of r.io"]})
         self.assertEqual(credentials("other.io/app", None), {"basic": ["one", "of other.io"]})
         self.assertEqual(credentials("docker.io/library/app", None), {"basic": ["one", "of https://index.docker.io/v1/"]})
         self.assertEqual(credentials("n.io/app", None), {"basic": ["kept", "1"]})
         self.assertEqual(credentials("e.io/app", None), "anonymous")  # what docker-credential-pass says of a server that it does not know
-        for name, told in (("l.io", "the store is locked"), ("t.io", "identity token"), ("j.io", "gives no credentials"), ("a.io", "docker-credential-absent"), ("p.io", "docker-credential-../one"), ("s.io", "docker-credential-one; x")):
+        for name, told in (("l.io", "the store is locked"), ("t.io", "identity token"), ("j.io", "gives no credentials"), ("a.io", "docker-credential-absent"), ("p.io", "docker-credential-../one"), ("s.io", "docker-credential-one; x"),
+                           ("7.io", "is not a string"), ("h.io", "surrogates not allowed"), ("d.io", "recursion"), ("x.io", "failed: x{300}$")):
             with self.assertRaisesRegex(ValueError, told):
                 credentials(f"{name}/app", None)
 

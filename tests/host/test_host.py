@@ -99,6 +99,18 @@ class Command(WithFolder):
             self.assertEqual((status, out, err.count("\n")), (2, "", 1), (words, err))
             self.assertNotIn("Traceback", err)
         self.assertEqual(self.pull("localhost:1", env={"ROKSNAEP_CORE": "/absent"})[0], 2)
+        self.assertEqual(self.pull("localhost:1", *(word for n in range(10) for word in ("--annotation", f"{n}={'x' * 100000}")))[::2],
+                         (2, "roksnaep: the keys, annotations and other settings are longer than a line of the core (1 MiB); give fewer ones\n"))
+
+    def test_files_that_are_not_read(self):
+        os.mkfifo(self.folder / "pipe")
+        (self.folder / "long").touch()
+        os.truncate(self.folder / "long", 1 << 43)
+        for name in ("pipe", "long", "/dev/zero", "."):
+            for words in (["--key"], ["--key", "public", "--trusted-root"], ["--key", "public", "--log-key"], ["--policy"], ["--key", "public", "--authfile"],
+                          ["--key", "public", "--ca"], ["--key", "public", "--client-cert"], ["--key", "public", "--client-key"]):
+                status, out, err = self.run_it("verify", "localhost:1/app:v1", *words, name)
+                self.assertEqual((status, out, err), (2, "", f"roksnaep: {name} is not a regular file of at most 16777216 bytes; replace it by one\n"))
 
     def test_help(self):
         for words, told in ((["--help"], "each has its own --help"), (["pull", "--help"], "--certificate-identity"), (["verify", "--help"], "roksnaep verify registry"),

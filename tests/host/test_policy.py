@@ -193,7 +193,7 @@ rules:
             self.refused(told, text)
 
     def test_documents_that_do_not_parse(self):
-        for text in ("{", "a: b: c", "version: 1\n\trules: []", "version: 1\n---\nversion: 1\n", "[" * 3000, b"\xff\xfe", "\0", "a: \x07", "%YAML 9", "&a", '{"version": 1,, }', "? ? ? :"):
+        for text in ("{", "a: b: c", "version: 1\n\trules: []", "version: 1\n---\nversion: 1\n", "[" * 3000, b"\xff\xfe", "\0", "a: \x07", "%YAML 9", "&a", '{"version":1,"rules":[{"images":"r.io","keys":["a.pub"],"annotations":{"a":"\\ud800"}}]}', '{"a":' * 3000, '{"version": 1,, }', "? ? ? :"):
             self.refused("is not a policy: ", text)
         self.refused("line 2 is not a policy: ", "version: 1\nrules: [}\n")
         with self.assertRaises(OSError):
