@@ -3,7 +3,6 @@ import asyncio
 import contextlib
 import json
 import ssl
-import sys
 import threading
 import time
 from concurrent.futures import ThreadPoolExecutor
@@ -13,9 +12,10 @@ from typing import Any, Callable, Iterable, Protocol
 from aiohttp import web
 
 from host.core import Core, Frame
+from host.files import read
 from host.rules import Rule
 from host.signatures import Signatures
-from host.terminal import printable
+from host.terminal import say
 
 VERSION, LONGEST, LINE, REVIEWS = "admission.k8s.io/v1", 1 << 20, 1 << 20, 1 << 32
 LATE = "not decided in time"
@@ -118,7 +118,7 @@ def logged(text: str, response: str, images: list[str], milliseconds: int) -> st
     review, said = json.loads(text), json.loads(response)["response"]
     line = {"uid": said["uid"], "namespace": member(review, "request", "namespace"), "images": images, "allowed": said["allowed"],
             "milliseconds": milliseconds}
-    return printable(json.dumps(line | ({"denied": said["status"]["message"]} if "status" in said else {})))
+    return json.dumps(line | ({"denied": said["status"]["message"]} if "status" in said else {}))
 
 
 class Webhook:
@@ -151,7 +151,7 @@ class Webhook:
             raise web.HTTPBadRequest(text=f"{error}\n") from None
         if not response:
             raise web.HTTPBadRequest(text="not a review of a Pod\n")
-        print(logged(text, response, images, round(1000 * (time.monotonic() - began))), file=sys.stderr, flush=True)
+        say(logged(text, response, images, round(1000 * (time.monotonic() - began))))
         return web.Response(text=response, content_type="application/json")
 
 
@@ -159,31 +159,43 @@ async def health(_: web.Request) -> web.Response:
     return web.Response(text="ok\n")
 
 
-async def serve(webhook: Webhook, host: str, port: int, files: tuple[Path, Path], signals: Iterable[int]) -> None:
+def load(context: ssl.SSLContext, files: tuple[Path, Path]) -> None:
+    """Takes the certificate and its key; OSError with a sentence if they are none."""
+    for path in files:
+        read(path)  # which is refused here if it is not a regular file
+    try:
+        context.load_cert_chain(*files)
+    except ssl.SSLError as error:
+        raise OSError(f"{files[0]} and {files[1]} are not a certificate and its key: {error}") from None
+
+
+async def serve(webhook: Webhook, place: tuple[str, int], files: tuple[Path, Path], signals: Iterable[int]) -> None:
     """Serves reviews until one of the signals comes. The certificate and its key are read again when their files change."""
     stopped = asyncio.Event()
     for number in signals:
         asyncio.get_running_loop().add_signal_handler(number, stopped.set)
     context = ssl.create_default_context(ssl.Purpose.CLIENT_AUTH)
     context.minimum_version = ssl.TLSVersion.TLSv1_2
-    context.load_cert_chain(*files)
+    load(context, files)
     changed = [path.stat().st_mtime_ns for path in files]
     server = web.Application(client_max_size=LONGEST)
     server.add_routes([web.post("/validate", webhook.answer), web.post("/mutate", webhook.answer), web.get("/healthz", health)])
     runner = web.AppRunner(server, access_log=None)
     await runner.setup()
-    site = web.TCPSite(runner, host, port, ssl_context=context, shutdown_timeout=1)
-    await site.start()
+    try:
+        await web.TCPSite(runner, *place, ssl_context=context, shutdown_timeout=1).start()
+    except (OSError, UnicodeError) as error:
+        raise OSError(f"{place[0]} port {place[1]} cannot be listened on ({error}); choose another --listen") from None
     bound = runner.addresses[0]
-    print(f"listening on {bound[0]}:{bound[1]}", file=sys.stderr, flush=True)
+    say(f"listening on {bound[0]}:{bound[1]}")
     while not stopped.is_set():
         with contextlib.suppress(asyncio.TimeoutError):
             await asyncio.wait_for(stopped.wait(), 1)
         try:
             if changed != (changed := [path.stat().st_mtime_ns for path in files]):
-                context.load_cert_chain(*files)
-                print("the certificate was read again", file=sys.stderr, flush=True)
-        except (OSError, ssl.SSLError) as error:  # half written: the old one stands until both fit
+                load(context, files)
+                say("the certificate was read again")
+        except OSError as error:  # half written: the old one stands until both fit
             changed = []
-            print(f"the certificate is not read again: {printable(str(error))}", file=sys.stderr, flush=True)
+            say(f"the certificate is not read again: {error}")
     await runner.cleanup()

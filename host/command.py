@@ -1,6 +1,7 @@
 """The subcommands: each run, from its options to one sentence, or one JSON object, and a status."""
 import argparse
 import contextlib
+import io
 import math
 import os
 import re
@@ -15,7 +16,7 @@ from host.checks import Checks, fits
 from host.conversation import Answered, Exchanges, Sent, converse
 from host.copies import Copy, Sides
 from host.core import Core, Frame
-from host.credentials import credentials
+from host.credentials import LONGEST, credentials
 from host.layout import Layout, Stored
 from host.lock import Lock, Pinned, entry_of, read_lock, text_of, whole, write_lock
 from host.network import SIGNALS, Network
@@ -53,8 +54,8 @@ def logins(option: argparse.Namespace) -> list[list[str] | None]:
     names = [option.username, getattr(option, "target_username", None)]
     if bool(option.password_stdin) != any(names):
         raise ValueError("--username and --password-stdin go together")
-    text = sys.stdin.read().rstrip("\r\n") if option.password_stdin else ""
-    passwords = text.splitlines() if all(names) else [text] * 2
+    text = sys.stdin.buffer.read(LONGEST).decode().rstrip("\r\n") if option.password_stdin else ""
+    passwords = [line.rstrip("\r") for line in text.split("\n")] if all(names) else [text] * 2
     if len(passwords) != 2:
         raise ValueError("two users have two passwords, each on a line of standard input")
     return [[name, password] if name else None for name, password in zip(names, passwords)]
@@ -232,7 +233,7 @@ def admit(option: argparse.Namespace) -> NoReturn:
         from host.policy import Policy
     except ImportError as error:
         raise ValueError(f"{error}; apt-get install python3-aiohttp") from None
-    policy, (host, _, port) = Policy(option.policy), option.listen.rpartition(":")
+    policy = Policy(option.policy)
 
     def connect(image: str, end: float) -> Network:
         registry = repository_of(image).partition("/")[0]
@@ -250,8 +251,7 @@ def admit(option: argparse.Namespace) -> NoReturn:
     if not fits({"rules": rules}):
         raise ValueError(TOO_LONG)
     deciders = Deciders({"rules": rules}, by_images, connect)
-    asyncio.run(serve(Webhook(deciders.decide, option.jobs, option.deadline), host.strip("[]"), int(port), (option.cert, option.private_key),
-                      SIGNALS - {signal.SIGALRM}))
+    asyncio.run(serve(Webhook(deciders.decide, option.jobs, option.deadline), option.listen, (option.cert, option.private_key), SIGNALS - {signal.SIGALRM}))
     raise End(4, "by a signal")
 
 
@@ -309,6 +309,9 @@ def main(words: list[str]) -> int:
     for name in ("stdin", "stdout", "stderr"):
         if getattr(sys, name) is None:  # closed by the caller
             setattr(sys, name, open(os.devnull, "r+"))
+    for stream in (sys.stdout, sys.stderr):
+        if isinstance(stream, io.TextIOWrapper):
+            stream.reconfigure(errors="backslashreplace")  # of what its encoding does not have
     try:
         for number in SIGNALS:
             if signal.getsignal(number) != signal.SIG_IGN:  # as nohup has it

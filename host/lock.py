@@ -8,6 +8,7 @@ import time
 from pathlib import Path
 from typing import Any, Iterable
 
+from host.checks import fits
 from host.conversation import Exchanges, Sent, converse
 from host.core import Core, Frame
 from host.files import read
@@ -104,6 +105,8 @@ class Lock:
         """Ends the command unless the image is locked under the rule, as the core decides."""
         settings: Frame = {"frame": "documents", "accepted": entry["accepted"], "reference": "localhost/image:lock", "protocol": "https", "auth": "anonymous",
                            "platform": platform or {"digest": entry["manifest_digest"]}, "moment": int(time.time())} | rule.settings()
+        if not fits({"lock": text_of([entry]), "settings": settings}):
+            raise End(1, f"{entry['image']}: its documents are longer than a line of the core (1 MiB), and cannot be locked; pull it without a lock file")
         if not holds(entry, settings, Signatures(rule)):
             failure = failure_of(entry, settings, rule)
             why = f"its image is not one for {platform}; choose another --platform" if platform and not failure else "its entry was edited; lock it again"

@@ -21,6 +21,7 @@ SLOWEST, RECEIVED = 1000, 256 << 10  # bytes: per second, and at once from a con
 FIELDS, TRIES, LONGEST_WAIT = 1000, 5, 60  # header fields, requests to a busy registry, seconds between them
 REMEMBERED, HELD = 60, 8 << 20  # seconds for which an answer of `/v2/` or a token holds; bytes of a request's body that can be sent again
 REALM = re.compile(r'\brealm *= *"?(https?://[^?",\s]+)', re.IGNORECASE)
+PROXY = re.compile("(?<=Unsupported proxy syntax|Unsupported proxy scheme).*", re.DOTALL)  # of libcurl, which repeats the proxy with its password
 STATUS = re.compile(rb"HTTP/1\.[01] (\d{3})\s")
 TRANSIENT = {pycurl.E_COULDNT_RESOLVE_HOST, pycurl.E_COULDNT_CONNECT, pycurl.E_SSL_CONNECT_ERROR,
              pycurl.E_SEND_ERROR, pycurl.E_RECV_ERROR, pycurl.E_GOT_NOTHING}
@@ -337,7 +338,7 @@ class Network:
         try:
             return self.request(frame, body) if frame["frame"] == "request" else self.more()
         except (OSError, ValueError, pycurl.error) as error:
-            self.failure = f"{shown(self.url)}: {error.args[-1]}"
+            self.failure = f"{shown(self.url)}: {PROXY.sub('', str(error.args[-1]))}"
             self.leave()
             self.answer = Answer(0)
             return {"frame": "failed"}, b""

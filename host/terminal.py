@@ -1,5 +1,7 @@
 """What the command writes on its standard streams, and the statuses that it ends with. Nothing that is written moves a terminal's cursor."""
+import contextlib
 import json
+import re
 import sys
 from typing import Any
 
@@ -24,8 +26,20 @@ def printable(text: str) -> str:
     return "".join(c if c.isprintable() else "?" for c in text)
 
 
+def without_secrets(text: str) -> str:
+    """The text, with no user, password or query in its URLs."""
+    return re.sub(r'(://)(?:[^\s"/?]*@)?([^\s"?]*)(?:\?[^\s"]*)?', r"\1\2", text)
+
+
+def say(text: str) -> None:
+    """Writes a line of a log, which nobody has to read."""
+    with contextlib.suppress(OSError):
+        print(printable(without_secrets(text)), file=sys.stderr, flush=True)
+
+
 def tell(words: list[str], place: str, status: int, sentence: str, rest: dict[str, Any]) -> None:
     """Writes how the command ended: the sentence, or one JSON object."""
+    sentence, rest = without_secrets(sentence), rest | ({"report": without_secrets(rest["report"])} if "report" in rest else {})
     if "--json" in words:
         outcome = OUTCOMES.get(status) or sentence.partition(" ")[0]
         more = {name: value for name, value in rest.items() if name != "frame"}

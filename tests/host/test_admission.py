@@ -125,12 +125,28 @@ class Admission(WithFolder):
             with self.assertRaises(ssl.SSLError):
                 self.post(b"{}", authority="old.crt")
 
+    def test_a_log_that_nobody_reads(self):
+        with registry(documents=self.signed()) as (place, _):
+            with self.webhook([{"images": f"{place}/app", "keys": ["public"]}]):
+                stderr, self.server.stderr = self.server.stderr, open(os.devnull)
+                stderr.close()
+                for _ in range(2):
+                    self.assertTrue(self.post(review_about(f"{place}/app:v1"))[1]["allowed"])
+
     def test_refuses_to_start(self):
         (self.folder / "policy.json").write_text("{}")
         words = ("admit", "--policy", "policy.json", "--cert", "tls.crt", "--private-key", "tls.key")
         self.assertEqual(self.run_it(*words)[0], 2)
         (self.folder / "policy.json").write_text(json.dumps({"version": 1, "rules": [{"images": "localhost", "keys": ["public"]}]}))
-        self.assertEqual(self.run_it(*words, "--listen", "127.0.0.1")[0], 2)
+        for place in ("127.0.0.1", "127.0.0.1:", ":0", "127.0.0.1:65536", "127.0.0.1:-1", "127.0.0.1:1_0", "127.0.0.1:\u0663", "a b:0", "::1:0", "*:0", "http://localhost:0"):
+            self.assertEqual(self.run_it(*words, "--listen", place)[::2], (2, f"roksnaep: argument --listen: {place} is not HOST:PORT with a port of at most 65535; see roksnaep admit --help\n"))
+        for place in ("256.0.0.1:0", "a..b:0"):
+            status, _, err = self.run_it(*words, "--listen", place)
+            self.assertEqual((status, err.startswith(f"roksnaep: {place[:-2]} port 0 cannot be listened on (")), (2, True), err)
+        for jobs in ("0", "-1", "x"):
+            self.assertEqual(self.run_it(*words, "--jobs", jobs)[0], 2)
+        os.mkfifo(self.folder / "pipe")
+        self.assertEqual(self.run_it(*words[:-1], "pipe")[::2], (2, "roksnaep: pipe is not a regular file of at most 16777216 bytes; replace it by one\n"))
         (self.folder / "policy.json").write_text(json.dumps({"version": 1, "rules": [{"images": "localhost", "keys": ["public"]}] * 2}))
         self.assertEqual(self.run_it(*words)[0], 2)
         (self.folder / "policy.json").write_text(json.dumps({"version": 1, "rules": [{"images": "localhost", "keys": ["public"]}]}))

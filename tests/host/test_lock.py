@@ -116,6 +116,13 @@ class Locks(WithFolder):
         self.assertEqual((status, file.read_text(), sorted(path.name for path in self.folder.iterdir())), (1, "old", ["private", "public", "roksnaep.lock"]))
         self.assertTrue(err.startswith(f"refused {place}/app:none: "), err)
 
+    def test_documents_that_no_line_has(self):
+        long = json.dumps(json.loads(MANIFEST) | {"annotations": {"a": "x" * 600_000}}).encode()
+        with registry(documents=self.signed(long) | {"/v2/app/manifests/v1": long}) as (place, _):
+            status, _, err = self.lock(f"{place}/app:v1")
+        self.assertEqual((status, self.left(".")), (1, ["private", "public"]))
+        self.assertTrue(err.startswith(f"refused {place}/app:v1: {place}/app:v1: its documents are longer than a line of the core (1 MiB), and cannot be locked; "), err)
+
     def test_whole_references(self):
         for reference, text in (("app", "docker.io/library/app:latest"), ("team/app:v1", "docker.io/team/app:v1"), ("localhost:5000/app", "localhost:5000/app:latest"),
                                 ("localhost/app:v1@sha256:00", "localhost/app:v1@sha256:00"), ("localhost/app@sha256:00", "localhost/app@sha256:00")):
