@@ -28,8 +28,9 @@ def side_by_side(tasks: Iterable[Task], begin: Begin[Task, Outcome], count: int 
         with uninterrupted():  # until a process has its own way of ending
             for task in itertools.islice(waiting, count):
                 ours, theirs = context.Pipe()
-                processes.append(context.Process(target=worked, args=(theirs, task, begin), daemon=True))
-                processes[-1].start()
+                process = context.Process(target=worked, args=(theirs, task, begin), daemon=True)
+                process.start()
+                processes.append(process)
                 theirs.close()
                 ways[ours] = task
         while ways:
@@ -48,7 +49,8 @@ def side_by_side(tasks: Iterable[Task], begin: Begin[Task, Outcome], count: int 
     finally:
         for process in processes:
             with contextlib.suppress(ProcessLookupError):
-                os.killpg(process.pid or 0, signal.SIGKILL)  # with its cores
+                assert process.pid  # it was started; the group 0 is the one of the command
+                os.killpg(process.pid, signal.SIGKILL)  # with its cores
             process.kill()
             process.join()
         if not done:

@@ -45,7 +45,7 @@ class Core:
 
     def __init__(self, alone: bool = True, carries: bool = False) -> None:
         (path, which), pipe = program("roksnaep-core"), subprocess.PIPE
-        if not os.access(path, os.X_OK):
+        if not (path.is_file() and os.access(path, os.X_OK)):
             raise ValueError(f"{path} is not a program ({which}); make core builds one, and ROKSNAEP_CORE can name one")
         self.blob: IO[bytes] | None = None  # where it gets the bytes of a blob that it carries
         environment = os.environ | ({"MALLOC_MMAP_THRESHOLD_": str(PIPE)} if carries else {})  # so that glibc gives back at once what held a chunk

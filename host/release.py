@@ -44,13 +44,21 @@ def unpacked(name: str, wide: bool | None = None) -> Path:
         import tempfile
         if hashlib.sha256(packed.read_bytes()).hexdigest() != digest:
             raise ValueError(f"{packed} does not have its checksum in SHA256SUMS; restore both: git checkout {DIST}")
-        to.parent.mkdir(mode=0o700, parents=True, exist_ok=True)
-        with tempfile.NamedTemporaryFile(dir=to.parent, delete=False) as file:
-            file.write(lzma.decompress(packed.read_bytes()))
-            file.flush()
-            os.fsync(file.fileno())
-        os.chmod(file.name, 0o755)
-        os.rename(file.name, to)
+        try:
+            to.parent.mkdir(mode=0o700, parents=True, exist_ok=True)
+            file = tempfile.NamedTemporaryFile(dir=to.parent, delete=False)
+            try:
+                with file:
+                    file.write(lzma.decompress(packed.read_bytes()))
+                    file.flush()
+                    os.fsync(file.fileno())
+                os.chmod(file.name, 0o755)
+                os.rename(file.name, to)
+            except BaseException:
+                os.unlink(file.name)
+                raise
+        except OSError as error:
+            raise OSError(f"{to} could not be written ({error.strerror}); make room for it, or name another folder by XDG_CACHE_HOME") from None
     return to
 
 

@@ -7,7 +7,9 @@ import subprocess
 import sys
 import time
 import unittest
+from multiprocessing.context import ForkProcess as Process
 from pathlib import Path
+from unittest import mock
 
 sys.dont_write_bytecode = True
 TOP = Path(__file__).resolve().parent.parent.parent
@@ -43,6 +45,21 @@ class SideBySide(unittest.TestCase):
             with self.assertRaises(type(raised)) as seen:
                 self.ends(range(9), do)
             self.assertEqual(seen.exception.args, raised.args)
+
+    def test_one_that_cannot_be_started(self):
+        """The others end, and nothing else does: not the group of the command, which killpg(0) would be."""
+        seen, start = [], Process.start
+
+        def second(process):
+            seen.append(process)
+            if len(seen) == 2:
+                raise OSError(24, "too many")
+            start(process)
+
+        with mock.patch.object(Process, "start", second), mock.patch("os.killpg", side_effect=ProcessLookupError) as kill:
+            self.assertRaises(OSError, self.ends, range(9), time.sleep)
+        self.assertEqual([call.args[0] for call in kill.call_args_list], [seen[0].pid])
+        self.assertFalse(runs(seen[0].pid))
 
     def test_one_that_was_killed(self):
         self.assertRaises(EOFError, self.ends, range(9), lambda task: task == 6 and os.kill(os.getpid(), signal.SIGKILL))

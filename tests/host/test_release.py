@@ -68,6 +68,16 @@ class Release(unittest.TestCase):
         (self.top / "dist/roksnaep-core-x86_64.xz").write_bytes(b"")
         self.assertEqual(release.program("roksnaep-core")[0], path)
 
+    def test_a_cache_that_cannot_be_written(self):
+        self.release()
+        with mock.patch("os.fsync", side_effect=OSError(28, "No space left on device")), self.assertRaisesRegex(OSError, r"could not be written \(No space left on device\); make room"):
+            release.program("roksnaep-core")
+        self.assertEqual([], [found for found in self.cache.rglob("*") if found.is_file()])
+        self.cache.rename(self.cache.with_name("other"))
+        self.cache.write_text("")
+        with self.assertRaisesRegex(OSError, r"could not be written \(Not a directory\); make room"):
+            release.program("roksnaep-core")
+
     def test_the_processor(self):
         """The program for x86-64-v3 is taken where it is released, and where every processor has what it needs."""
         self.release()
