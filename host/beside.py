@@ -69,9 +69,10 @@ def worked(way: "Connection", task: Task, begin: Begin[Task, Outcome]) -> None:
     fcntl.fcntl(command.sentinel, fcntl.F_SETOWN, os.getpid())
     fcntl.fcntl(command.sentinel, fcntl.F_SETFL, os.O_ASYNC)  # SIGIO, which ends this process, once the command is gone
     with contextlib.suppress(EOFError):
-        do = begin()
+        do: Callable[[Task], Outcome] | None = None
         while True:
             try:
+                do = do or begin()
                 outcome: Outcome | Exception = do(task)
             except Exception as error:  # which is raised where it is waited for
                 outcome = error

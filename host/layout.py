@@ -72,6 +72,12 @@ def is_ours(folder: Path) -> bool:
     return stat.S_ISDIR(found.st_mode) and found.st_uid == os.geteuid() and not found.st_mode & 0o022
 
 
+def is_closed(folder: Path) -> bool:
+    """Whether no link leads out of it, as one that came with an archive or a checkout may: it has folders, and files with one name."""
+    found = [path.lstat() for path in folder.rglob("*")]
+    return all(stat.S_ISDIR(one.st_mode) or stat.S_ISREG(one.st_mode) and one.st_nlink == 1 for one in found)
+
+
 def lock(folder: Path) -> bool:
     """Locks a folder until the command ends, unless another one has it."""
     number = os.open(folder, os.O_RDONLY)
@@ -103,7 +109,7 @@ class Layout:
         self.made = [path for path in (parent, *parent.parents) if not path.exists()]
         name = f".{'' if self.home else target.name}-"
         left = [path for path in parent.glob(f"{glob.escape(name)}{'[0-9a-f]' * 12}") if is_ours(path)] if parent.is_dir() else []
-        self.work = next(filter(lock, left), None) or parent / f"{name}{os.urandom(6).hex()}"
+        self.work = next((path for path in left if lock(path) and is_closed(path)), None) or parent / f"{name}{os.urandom(6).hex()}"
         try:
             if self.work not in left:
                 self.work.mkdir(parents=True)

@@ -159,7 +159,7 @@ class Remembered:
 
     def keep(self, key: tuple[str, ...], answer: Answer, is_token: bool) -> None:
         """Keeps an answer that has arrived whole. Without `expires_in` a token lives for a minute."""
-        with contextlib.suppress(ValueError, TypeError, AttributeError):
+        with contextlib.suppress(ValueError, TypeError, AttributeError, RecursionError, OverflowError):
             life = json.loads(bytes(answer.body)).get("expires_in", REMEMBERED) if is_token else REMEMBERED
             self.answers[key] = time.monotonic() + min(REMEMBERED, life), answer.again()
 

@@ -45,6 +45,8 @@ class SideBySide(unittest.TestCase):
             with self.assertRaises(type(raised)) as seen:
                 self.ends(range(9), do)
             self.assertEqual(seen.exception.args, raised.args)
+            with self.assertRaises(type(raised)), contextlib.closing(side_by_side(range(9), mock.Mock(side_effect=raised))) as ends:
+                list(ends)
 
     def test_one_that_cannot_be_started(self):
         """The others end, and nothing else does: not the group of the command, which killpg(0) would be."""

@@ -2,9 +2,11 @@
 """Tests of what is written, and of what is read again: layouts, archives, signatures beside images, and `check`."""
 import json
 import os
+import shutil
 import subprocess
 import tarfile
 import unittest
+from pathlib import Path
 from unittest import mock
 
 from support import CONFIG, IMAGE, LAYERS, MANIFEST, TOP, WithFolder, digest_of, manifest_of, registry
@@ -80,6 +82,24 @@ class Places(WithFolder):
             layout.place()
         self.assertEqual({str(path.relative_to(self.folder)).replace(layout.work.name, "W") for path in done},
                          {"W", "W/blobs", "W/blobs/sha256", f"W/blobs/sha256/{digest_of(CONFIG)[7:]}", "W/index.json", "W/oci-layout", "."})
+
+    def test_a_folder_with_links_is_not_gone_on_with(self):
+        """A hidden folder may have come with an archive or a checkout: nothing is written, or removed, where its links lead."""
+        kept, left = self.folder / "kept", self.folder / ".image-0123456789ab"
+        (kept / "sub").mkdir(parents=True)
+        (kept / "sub/file").write_text("mine")
+        names = [f"blobs/sha256/{mark}{digest_of(content)[7:]}{end}" for content in IMAGE for mark, end in (("", ""), *((".", f"-{place}") for place in range(3)))]
+        with registry(documents=self.signed()) as (place, _):
+            for links, make in (({"blobs": kept}, Path.symlink_to), ({"index.json": kept / "new"}, Path.symlink_to),
+                                (dict.fromkeys(names, kept / "sub/file"), Path.symlink_to), (dict.fromkeys(names, kept / "sub/file"), Path.hardlink_to)):
+                for name, target in links.items():
+                    (left / name).parent.mkdir(parents=True, exist_ok=True)
+                    make(left / name, target)
+                self.assertEqual(self.pull(place, out="image")[0], 0)
+                self.assertEqual({str(path): path.read_text() for path in kept.rglob("*") if path.is_file()}, {str(kept / "sub/file"): "mine"})
+                self.assertEqual(self.blobs("image"), {digest_of(x)[7:] for x in IMAGE + self.signature})
+                shutil.rmtree(self.folder / "image")
+                shutil.rmtree(left)
 
     def test_a_place_that_appears_meanwhile(self):
         for form in ("oci", "oci-archive"):
