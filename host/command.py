@@ -54,7 +54,10 @@ def logins(option: argparse.Namespace) -> list[list[str] | None]:
     names = [option.username, getattr(option, "target_username", None)]
     if bool(option.password_stdin) != any(names):
         raise ValueError("--username and --password-stdin go together")
-    text = sys.stdin.buffer.read(LONGEST).decode().rstrip("\r\n") if option.password_stdin else ""
+    content = sys.stdin.buffer.read(2 * LONGEST + 1) if option.password_stdin else b""
+    if len(content) > 2 * LONGEST:
+        raise ValueError(f"standard input has more than {2 * LONGEST} bytes, and not a password; give it alone")
+    text = content.decode().rstrip("\r\n")
     passwords = [line.rstrip("\r") for line in text.split("\n")] if all(names) else [text] * 2
     if len(passwords) != 2:
         raise ValueError("two users have two passwords, each on a line of standard input")
@@ -147,6 +150,8 @@ class Run:
         if end["frame"] == "pulled" and self.has_blobs and self.settings["frame"] == "documents" and (refused := self.blobs(end)):
             end, registry = refused
         name, signer = self.option.place, signatures.signer(end.get("signature", ""))
+        if end["frame"] == "ended" and end["status"] == 3 and isinstance(self.registry, Stored):
+            raise End(1, "its index.json has an annotation (dev.roksnaep.reference or dev.roksnaep.signed-digest) that names no image; pull the image again")
         if end["frame"] == "ended":
             return failed(name, end["status"])
         if end["frame"] == "refused" and isinstance(self.registry, Stored) and self.registry.failure:

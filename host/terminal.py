@@ -6,6 +6,7 @@ import sys
 from typing import Any
 
 STATUSES = "exit status: 0 success, 1 refused, 2 wrong usage, 3 invalid reference, 4 stopped or failed, 5 not written, 6 out of memory"
+LONGEST = 4000  # characters of a sentence, in which a registry's text may be
 OUTCOMES = {1: "refused", 2: "usage", 3: "reference", 4: "stopped", 5: "unwritten", 6: "memory"}
 
 
@@ -39,7 +40,8 @@ def say(text: str) -> None:
 
 def tell(words: list[str], place: str, status: int, sentence: str, rest: dict[str, Any]) -> None:
     """Writes how the command ended: the sentence, or one JSON object."""
-    sentence, rest = without_secrets(sentence), rest | ({"report": without_secrets(rest["report"])} if "report" in rest else {})
+    sentence = without_secrets(sentence)
+    sentence, rest = sentence if len(sentence) <= LONGEST else f"{sentence[:LONGEST]}..", rest | ({"report": without_secrets(rest["report"])} if "report" in rest else {})
     if "--json" in words:
         outcome = OUTCOMES.get(status) or sentence.partition(" ")[0]
         more = {name: value for name, value in rest.items() if name != "frame"}

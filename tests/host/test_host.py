@@ -280,6 +280,10 @@ class Command(WithFolder):
             status, _, err = self.run_it("verify", "localhost:1/\x1b[2J\u009bx\n\udcff", "--key", str(self.key), fake=fake)
             self.assertTrue(err.count("\n") == 1 and all(c.isprintable() or c == "\n" for c in err), repr(err))
 
+    def test_sentences_are_cut(self):
+        status, _, err = self.pull("localhost:1", fake=f'refused refused RegistryPullError "x" IncompatibleLayerMediaTypeError "{"x" * 50000}"\\n')
+        self.assertEqual((status, len(err), err[-6:]), (1, 4003, "xxx..\n"))
+
     def test_urls_are_cut(self):
         status, _, err = self.pull("localhost:1", fake='refused refused RegistryPullError "x" ServerError 500 "https://r.io/x?secret=1" 0\\n')
         self.assertEqual((status, "secret" in err, "https://r.io/x " in err), (1, False, True))
@@ -357,6 +361,9 @@ class Parts(unittest.TestCase):
         option = argparse.Namespace(username="a", target_username="b", password_stdin=True)
         with mock.patch("sys.stdin", io.TextIOWrapper(io.BytesIO("\u00e4\u2028\x0c \r\ny\n".encode()), "ascii")):
             self.assertEqual(host.command.logins(option), [["a", "\u00e4\u2028\x0c "], ["b", "y"]])
+        for content in (b"x" * 200_000, b"\xff\nx"):
+            with mock.patch("sys.stdin", io.TextIOWrapper(io.BytesIO(content))), self.assertRaises(ValueError):
+                host.command.logins(option)
 
     def test_sentences(self):
         U, D, S = "http://r.io/v2/app/manifests/v1", "sha256:" + "a" * 64, "r.io/app:v1"

@@ -228,6 +228,7 @@ class Check(WithFolder):
         for fake, told in ("check 6", (6, "out of memory")), ("check 4", (4, "the core ended unexpectedly")), ("blobs 6", (0, "")):
             status, _, err = self.check(fake=fake)
             self.assertEqual((status, told[1] in err), (told[0], True), err)
+        self.assertEqual(self.check(fake="ends 3")[::2], (1, "refused out/image: its index.json has an annotation (dev.roksnaep.reference or dev.roksnaep.signed-digest) that names no image; pull the image again\n"))
         word = {"frame": "check", "entry": {"first": "x" * (1 << 20)}}
         self.assertEqual((fits(word), fits(word | {"entry": {}})), (False, True))
         self.assertIn("its documents do not hold", Refusals({}, "").sentence("image", refusal({"frame": "checked", "verdict": "documents"})["report"]))
