@@ -328,7 +328,7 @@ def main(words: list[str]) -> int:
         status, sentence, rest = result(option)
     except End as end:
         status, why = end.args
-        sentence = f"roksnaep: {why}" if status == 2 else f"{OUTCOMES[status]} {place}: {why}"
+        sentence = f"roksnaep: {why}" if status == 2 else f"{'failed' if status in ENDS else OUTCOMES[status]} {place}: {why}"
     except MemoryError:
         status, sentence = 6, f"failed {place}: {ENDS[6]}"
     except OSError as error:

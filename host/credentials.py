@@ -68,7 +68,7 @@ def credentials(repository: str, authfile: Path | None) -> Any:
     names += [form.format(host) for host in hosts for form in FORMS]
     for file in files(authfile):
         try:
-            content = json.loads(read(file) or b"{}")
+            content = json.loads(b"{}" if file.samefile(os.devnull) else read(file) or b"{}")
             auths, helpers = content.get("auths") or {}, content.get("credHelpers") or {}
             helper = next((helpers[host] for host in hosts if host in helpers), None) or content.get("credsStore")
             server = "https://index.docker.io/v1/" if registry in HUB else registry

@@ -19,7 +19,7 @@ from host.refusals import Refusals
 from host.release import program
 from host.rules import Rule
 from host.signatures import Signatures
-from host.terminal import End
+from host.terminal import ENDS, End
 
 Entry = dict[str, Any]
 LONGEST = 64 << 20  # bytes of a lock file, as pull_program reads one
@@ -88,7 +88,8 @@ def holds(entry: Entry, settings: Frame, signatures: Signatures) -> bool:
             core.write({"frame": "lockcheck", "lock": text_of([entry]), "settings": settings} if frame["frame"] == "begin" else signatures.reply(frame, message))
         return bool(core.ended(frame, 0 if frame["verdict"] == "holds" else 1)["verdict"] == "holds")
     except (BrokenPipeError, LookupError, TypeError, ValueError):
-        raise End(4, f"the core ended unexpectedly, with the status {core.end()}") from None
+        status = core.end()
+        raise End(status if status in ENDS else 4, ENDS.get(status, f"the core ended unexpectedly, with the status {status}")) from None
     finally:
         core.process.kill()
 

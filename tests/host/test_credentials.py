@@ -4,6 +4,7 @@ import base64
 import json
 import os
 import unittest
+from pathlib import Path
 from unittest import mock
 
 from support import WithFolder, registry
@@ -68,8 +69,10 @@ class Files(WithFolder):
                 self.assertEqual(credentials("r.io/app", None)["basic"][0], "variable")
                 self.keep({"r.io": pair("named:1")}, self.folder / "named.json")
                 self.assertEqual(credentials("r.io/app", self.folder / "named.json")["basic"][0], "named")
-            with self.assertRaises(OSError):
-                credentials("r.io/app", self.folder / "absent.json")
+            for name in ("absent.json", "."):
+                with self.assertRaises(OSError):
+                    credentials("r.io/app", self.folder / name)
+            self.assertEqual(credentials("r.io/app", Path(os.devnull)), "anonymous")
         with mock.patch.dict(os.environ, clear=True):
             self.assertEqual(credentials("r.io/app", None), "anonymous")
 

@@ -99,7 +99,7 @@ class Locks(WithFolder):
         with registry(documents=self.signed()) as (place, handler):
             status, out, err = self.lock(f"{place}/app:v1", env={"PYTHONDONTWRITEBYTECODE": "1"}, preexec_fn=lambda: resource.setrlimit(resource.RLIMIT_FSIZE, (100, 100)))
             self.assertEqual((status, out), (5, ""))
-            self.assertEqual(err, f"unwritten {place}/app:v1: roksnaep.lock could not be written (File too large), and is as it was; make room for it, or choose another --lock\n")
+            self.assertEqual(err, f"failed {place}/app:v1: roksnaep.lock could not be written (File too large), and is as it was; make room for it, or choose another --lock\n")
             self.assertEqual(((self.folder / "roksnaep.lock").read_text(), self.left(".")), ("old", ["private", "public", "roksnaep.lock"]))
             handler.seen.clear()
             (self.folder / "pipe").symlink_to("/dev/null")
@@ -115,6 +115,13 @@ class Locks(WithFolder):
             status, _, err = self.lock(f"{place}/app:v1", f"{place}/app:none")
         self.assertEqual((status, file.read_text(), sorted(path.name for path in self.folder.iterdir())), (1, "old", ["private", "public", "roksnaep.lock"]))
         self.assertTrue(err.startswith(f"refused {place}/app:none: "), err)
+
+    def test_a_core_that_ends(self):
+        with registry(documents=self.signed()) as (place, _):
+            self.assertEqual(self.lock(f"{place}/app:v1")[0], 0)
+        for status, told in ((3, "failed roksnaep.lock: the reference is invalid, or --platform is not OS/ARCH; write registry/name:tag"),
+                             (6, "failed roksnaep.lock: out of memory; run it with more"), (7, "stopped roksnaep.lock: the core ended with the status 7")):
+            self.assertEqual(self.check(fake=f"ends {status}")[::2], (4 if status == 7 else status, f"{told}\n"))
 
     def test_documents_that_no_line_has(self):
         long = json.dumps(json.loads(MANIFEST) | {"annotations": {"a": "x" * 600_000}}).encode()
