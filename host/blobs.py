@@ -135,7 +135,10 @@ class Received:
     def rest(self, frame: Frame, have: int) -> tuple[Frame, bytes]:
         """Requests a blob of which the first bytes are in its hidden file: the others, or from the start if the registry does not give them."""
         self.is_resumed = have > 0
-        if have and have >= self.sizes[self.digest]:
+        if have > self.sizes[self.digest]:  # which is not of the blob
+            self.path.unlink()
+            return self.rest(frame, 0)
+        if have and have == self.sizes[self.digest]:
             return self.stored(self.path)
         more = [["range", f"bytes={have}-"]] if have else []
         answer, data = self.registry.reply(frame | {"headers": frame["headers"] + more})

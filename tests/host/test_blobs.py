@@ -3,6 +3,7 @@
 import json
 import os
 import re
+import shutil
 import time
 import unittest
 
@@ -113,6 +114,20 @@ class Broken(WithFolder):
             asked = [(path.rpartition("/")[2], headers.get("range")) for _, path, headers in handler.seen if "/blobs/" in path]
             self.assertRegex(dict(asked)[digest_of(LARGE)], r"bytes=\d{6,}-")
         self.assertEqual(self.blobs("out/image"), {digest_of(x)[7:] for x in (OTHER, CONFIG, LARGE, LAYERS[0])})
+
+    def test_a_left_file_that_is_not_of_the_blob(self):
+        """Longer than the blob, as long with other bytes, or a part of other bytes: it is requested from the start."""
+        left = self.folder / "out" / ".image-0123456789ab/blobs/sha256"
+        for size in (len(LAYERS[1]) + 1, 1 << 43, len(LAYERS[1]), 1000):
+            left.mkdir(parents=True)
+            for mark in range(3):
+                with open(left / f".{digest_of(LAYERS[1])[7:]}-{mark}", "wb") as file:
+                    file.truncate(size)
+            with registry() as (place, _):
+                status, _, err = self.pull(place)
+            self.assertEqual((status, err, self.left()), (0, "", ["image"]), size)
+            self.assertEqual(self.blobs("out/image"), {digest_of(x)[7:] for x in (MANIFEST, CONFIG, *LAYERS)})
+            shutil.rmtree(self.folder / "out")
 
     def test_a_folder_of_others_is_not_taken_over(self):
         (self.folder / "out" / ".image-0123456789ab/blobs/sha256").mkdir(parents=True)
