@@ -6,6 +6,7 @@ from pathlib import Path
 from typing import Any
 
 from cryptography import x509
+from cryptography.exceptions import UnsupportedAlgorithm
 from cryptography.hazmat.primitives.hashes import SHA256, SHA384, SHA512
 from cryptography.hazmat.primitives.serialization import Encoding
 from cryptography.x509.oid import ExtendedKeyUsageOID as Purpose
@@ -82,7 +83,7 @@ class TrustedRoot:
             self.logs, self.certificate_logs = logs_of(root["tlogs"]), logs_of(root["ctlogs"])
             self.authorities = [([x509.load_der_x509_certificate(base64.b64decode(one["rawBytes"])) for one in entry["certChain"]["certificates"]],
                                  period(entry)) for entry in root["certificateAuthorities"]]
-        except (ValueError, LookupError, TypeError, AttributeError, RecursionError, Warning) as error:
+        except (ValueError, LookupError, TypeError, AttributeError, RecursionError, Warning, x509.InvalidVersion, UnsupportedAlgorithm) as error:
             raise ValueError(f"{path} is not a sigstore trusted root (trusted_root.json): {type(error).__name__}: {error}") from None
 
     def issuer_of(self, certificate: x509.Certificate, time: float) -> x509.Certificate | None:

@@ -273,11 +273,14 @@ class Roots(WithRoot):
         def changed(**members):
             return json.dumps(good | members)
 
-        key = good["tlogs"][0]["publicKey"]
+        key, issuer = good["tlogs"][0]["publicKey"], base64.b64decode(good["certificateAuthorities"][0]["certChain"]["certificates"][0]["rawBytes"])
+        version = base64.b64encode(issuer.replace(b"\xa0\x03\x02\x01\x02", b"\xa0\x03\x02\x01\x07")).decode()
         for text in ("", "{", "[]", "1", "null", "{}", "[" * 100000, "\xff", changed(mediaType="application/json"), changed(mediaType=1), changed(tlogs=None),
                      changed(ctlogs=[{}]), changed(certificateAuthorities=[{"certChain": {"certificates": [{"rawBytes": "AAAA"}]}, "validFor": {}}]),
                      changed(tlogs=[{"publicKey": key | {"rawBytes": "AAAA"}}]), changed(tlogs=[{"publicKey": key | {"validFor": {"start": "yesterday"}}}]),
-                     changed(tlogs=[{"publicKey": key | {"validFor": {"start": "2020-01-01T00:00:00"}}}]), changed(tlogs=[{"publicKey": {"rawBytes": key["rawBytes"]}}])):
+                     changed(tlogs=[{"publicKey": key | {"validFor": {"start": "2020-01-01T00:00:00"}}}]), changed(tlogs=[{"publicKey": {"rawBytes": key["rawBytes"]}}]),
+                     changed(certificateAuthorities=[{"certChain": {"certificates": [{"rawBytes": version}]}, "validFor": {"start": "2020-01-01T00:00:00Z"}}]),
+                     changed(other="\ud800"), changed(Tlogs=[]), '{"tlogs":[],' + changed()[1:], "\ufeff".encode().decode("latin-1") + changed()):
             path.write_text(text, encoding="latin-1")
             with self.assertRaises(ValueError, msg=text[:200]) as caught:
                 TrustedRoot(path)
