@@ -164,9 +164,9 @@ def load(context: ssl.SSLContext, files: tuple[Path, Path]) -> None:
     for path in files:
         read(path)  # which is refused here if it is not a regular file
     try:
-        context.load_cert_chain(*files)
+        context.load_cert_chain(*files, password="")  # so that a terminal is not asked for one
     except ssl.SSLError as error:
-        raise OSError(f"{files[0]} and {files[1]} are not a certificate and its key: {error}") from None
+        raise OSError(f"{files[0]} and {files[1]} are not a certificate and its key, without a password: {error}") from None
 
 
 async def serve(webhook: Webhook, place: tuple[str, int], files: tuple[Path, Path], signals: Iterable[int]) -> None:

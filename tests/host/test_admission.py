@@ -145,6 +145,9 @@ class Admission(WithFolder):
             self.assertEqual((status, err.startswith(f"roksnaep: {place[:-2]} port 0 cannot be listened on (")), (2, True), err)
         for jobs in ("0", "-1", "x"):
             self.assertEqual(self.run_it(*words, "--jobs", jobs)[0], 2)
+        openssl("rsa", "-aes256", "-passout", "pass:secret", "-in", self.folder / "tls.key", "-out", self.folder / "closed.key")
+        status, _, err = self.run_it(*words[:-1], "closed.key")
+        self.assertEqual((status, err.startswith("roksnaep: tls.crt and closed.key are not a certificate and its key, without a password: ")), (2, True), err)
         os.mkfifo(self.folder / "pipe")
         self.assertEqual(self.run_it(*words[:-1], "pipe")[::2], (2, "roksnaep: pipe is not a regular file of at most 16777216 bytes; replace it by one\n"))
         (self.folder / "policy.json").write_text(json.dumps({"version": 1, "rules": [{"images": "localhost", "keys": ["public"]}] * 2}))
