@@ -75,6 +75,8 @@ def credentials(repository: str, authfile: Path | None) -> Any:
             found = helper and helped(helper, server) or next(filter(None, (entered(auths[name], name) for name in names if name in auths)), None)
             if found:
                 return valid(found)
-        except (ValueError, LookupError, TypeError, AttributeError, RecursionError, subprocess.SubprocessError) as error:
+        except (ValueError, RecursionError, subprocess.SubprocessError) as error:
             raise ValueError(f"{file} gives no credentials for {registry}: {error}") from None
+        except (LookupError, TypeError, AttributeError):
+            raise ValueError(f"{file} gives no credentials for {registry}: a member of it, or of what its program wrote, is missing or has another type") from None
     return "anonymous"

@@ -62,8 +62,10 @@ def read_index(folder: Path) -> dict[str, Any]:
             entry["annotations"] = {name: str(text) for name, text in (entry.get("annotations") or {}).items()}
             blob_name(entry["digest"])
         return index
-    except (OSError, ValueError, LookupError, TypeError, AttributeError) as error:
+    except (OSError, ValueError) as error:
         raise ValueError(f"{folder} is not an OCI image layout ({error})") from None
+    except (LookupError, TypeError, AttributeError):
+        raise ValueError(f"{folder} is not an OCI image layout (a member of its index.json or oci-layout is missing, or has another type)") from None
 
 
 def is_ours(folder: Path) -> bool:
