@@ -20,6 +20,7 @@ from host.files import LONGEST, opened, read_json
 
 DIGEST = re.compile(r"([a-z0-9]+(?:[+._-][a-z0-9]+)*):([0-9a-f]+)")  # OCI image specification, "Digests"
 NAME, OURS, BUNDLE = "org.opencontainers.image.ref.name", "dev.roksnaep.", "application/vnd.dev.sigstore.bundle"
+MEMBERS = {name.casefold(): name for name in ("manifests", "mediaType", "digest", "size", "annotations", "platform", "data", "urls")}
 MANIFEST, INDEX = "application/vnd.oci.image.manifest.v1+json", "application/vnd.oci.image.index.v1+json"
 
 
@@ -58,6 +59,8 @@ def read_index(folder: Path) -> dict[str, Any]:
         if "imageLayoutVersion" not in read_json(folder / "oci-layout"):
             raise ValueError("its oci-layout has no imageLayoutVersion")
         index: dict[str, Any] = read_json(folder / "index.json")
+        if any(MEMBERS.get(name.casefold(), name) != name for one in (index, *index["manifests"]) for name in one):
+            raise ValueError("its index.json has a member in another case, which other programs read")
         for entry in index["manifests"]:
             entry["annotations"] = {name: str(text) for name, text in (entry.get("annotations") or {}).items()}
             blob_name(entry["digest"])

@@ -251,7 +251,8 @@ class Check(WithFolder):
         self.assertEqual((status, out), (1, ""))
         self.assertTrue(err.startswith(f"refused out/image: its index.json names {digest_of(other)}, and the image that was signed is {digest_of(MANIFEST)}; "), err)
         for changed in (index | {"Manifests": others}, index | {"manife\u017fts": others}, index | {"manifests": [entry | {"Digest": digest_of(other)}]},
-                        index | {"manifests": [entry | {"annotations": {"a": "\ud800"}}]}):
+                        index | {"manifests": [entry | {"annotations": {"a": "\ud800"}}]},
+                        index | {"manifests": [{{"annotations": "Annotations"}.get(name, name): value for name, value in others[0].items()}, entry]}):
             file.write_text(json.dumps(changed))
             self.assertEqual(self.check()[0], 2)
             with registry() as (place, _):
