@@ -15,7 +15,7 @@ from host.layout import Layout
 
 PARTS, TRIES, FRESH = 16, 5, 8 << 20  # ranges of about the same size; cores for a blob, one after another; bytes that wait for the disk
 Source = TypeVar("Source", bound=Registry)
-PARTIAL = re.compile(r"bytes (\d+)-\d+/(\d+|\*)")  # RFC 9110, 14.4
+PARTIAL = re.compile(r"bytes (\d{1,18})-\d+/(\d+|\*)", re.ASCII)  # RFC 9110, 14.4
 
 
 class Asked(NamedTuple):

@@ -21,11 +21,10 @@ SLOWEST, RECEIVED = 1000, 256 << 10  # bytes: per second, and at once from a con
 FIELDS, TRIES, LONGEST_WAIT = 1000, 5, 60  # header fields, requests to a busy registry, seconds between them
 REMEMBERED, HELD = 60, 8 << 20  # seconds for which an answer of `/v2/` or a token holds; bytes of a request's body that can be sent again
 REALM = re.compile(r'\brealm *= *"?(https?://[^?",\s]+)', re.IGNORECASE)
-PROXY = re.compile("(?<=Unsupported proxy syntax|Unsupported proxy scheme).*", re.DOTALL)  # of libcurl, which repeats the proxy with its password
 STATUS = re.compile(rb"HTTP/1\.[01] (\d{3})\s")
 TRANSIENT = {pycurl.E_COULDNT_RESOLVE_HOST, pycurl.E_COULDNT_CONNECT, pycurl.E_SSL_CONNECT_ERROR,
              pycurl.E_SEND_ERROR, pycurl.E_RECV_ERROR, pycurl.E_GOT_NOTHING}
-SUPPRESS_CONNECT_HEADERS, UPLOAD_BUFFERSIZE = 265, 280  # as curl.h has them; pycurl does not name them
+SUPPRESS_CONNECT_HEADERS, UPLOAD_BUFFERSIZE, QUICK_EXIT = 265, 280, 322  # as curl.h has them; pycurl does not name them
 SIGNALS = {signal.SIGINT, signal.SIGTERM, signal.SIGHUP, signal.SIGALRM}
 
 
@@ -121,6 +120,11 @@ class Answer:
         return math.inf
 
 
+def plain(value: str | dict[str, str]) -> str:
+    """The value of a field, of which a frame has the bytes if they are not ASCII."""
+    return value if isinstance(value, str) else base64.b64decode(value["base64"]).decode("latin-1")
+
+
 class Upload:
     """The body of a request. A short one is held, so that it can be sent again; a long one is handed on as it comes."""
 
@@ -159,7 +163,7 @@ class Remembered:
 
     def keep(self, key: tuple[str, ...], answer: Answer, is_token: bool) -> None:
         """Keeps an answer that has arrived whole. Without `expires_in` a token lives for a minute."""
-        with contextlib.suppress(ValueError, TypeError, AttributeError, RecursionError, OverflowError):
+        with contextlib.suppress(ValueError, TypeError, AttributeError, OverflowError, RecursionError):
             life = json.loads(bytes(answer.body)).get("expires_in", REMEMBERED) if is_token else REMEMBERED
             self.answers[key] = time.monotonic() + min(REMEMBERED, life), answer.again()
 
@@ -170,14 +174,14 @@ class Network:
     `timeout` is in seconds, to connect and without data; `end` is by the monotonic clock. A document has at most `document` bytes, the
     headers of an answer at most `headers`; `blob` names the blob that comes next if it may be longer than a document.
     """
+    curl: pycurl.Curl | None = None
 
     def __init__(self, access: Access, timeout: float = 30, end: float = math.inf, document: int = 4 << 20, headers: int = 64 << 10) -> None:
         self.access, self.base, self.blob = access, access.base, ""
         self.timeout, self.end, self.document, self.headers = timeout, end, document, headers
-        self.statuses, self.failure, self.url, self.realms = dict[str, int](), "", "", set[Place]()
+        self.statuses, self.failure, self.url, self.proxy, self.realms = dict[str, int](), "", "", "", set[Place]()
         self.remembered, self.late = Remembered(), ""
         self.multi, self.answer, self.room = pycurl.CurlMulti(), Answer(0), mmap.mmap(-1, PIECE, mmap.MAP_PRIVATE)  # which takes no memory before it is used
-        self.curl: pycurl.Curl | None = None
         for path in filter(None, (access.authority, access.certificate, access.private_key)):
             read(path)  # so that a file that is missing is refused before any request
 
@@ -191,7 +195,8 @@ class Network:
 
     def options(self, frame: Frame, place: Place, answer: Answer, upload: Upload | None) -> dict[int, Any]:
         """The options of libcurl for a request."""
-        access, proxy = self.access, self.access.proxy_to(place)
+        access, end, late = self.access, self.end, time.monotonic() + 3 * max(1, self.timeout)
+        proxy = self.proxy = access.proxy_to(place)
 
         def connect(_: int, address: Any) -> socket.socket:
             """A socket to an address, if a connection may go there. Names are resolved by now, but not those that a proxy resolves."""
@@ -199,9 +204,17 @@ class Network:
                 raise ValueError(f"it leads to {address.addr[0]}, which is not a public address; name its host by --allow-host if you trust it")
             return socket.socket(address.family, address.socktype, address.protocol)
 
+        def watch(_: float, received: float, __: float, sent: float) -> None:
+            """Ends what libcurl does not: it reads all that a proxy sends before a tunnel, without a look at its time-outs, or at signals."""
+            now = time.monotonic()
+            if now > end or any(signal.getsignal(number) != signal.SIG_IGN for number in SIGNALS & signal.sigpending()):
+                raise ValueError("the time of the command is over")
+            if now > late and not (received or sent or answer.size):
+                raise ValueError("no answer, and no tunnel of a proxy, came in time")
+
         body = {pycurl.UPLOAD: 1, pycurl.INFILESIZE_LARGE: upload.size, UPLOAD_BUFFERSIZE: PIECE // 2,
                 pycurl.READFUNCTION: upload.read, pycurl.SEEKFUNCTION: upload.seek} if upload else {}
-        headers = [f"{name}: {value}" for name, value in frame["headers"] if not (upload and name.lower() == "content-length")]
+        headers = [f"{name}: {value}".encode("latin-1") for name, value in frame["headers"] if not (upload and name.lower() == "content-length")]
         files = ((pycurl.CAINFO, access.authority), (pycurl.SSLCERT, access.certificate), (pycurl.SSLKEY, access.private_key))
         return {
             pycurl.URL: frame["url"], pycurl.PATH_AS_IS: 1,
@@ -210,18 +223,19 @@ class Network:
             pycurl.HTTP_VERSION: pycurl.CURL_HTTP_VERSION_1_1, pycurl.SSLVERSION: pycurl.SSLVERSION_TLSv1_2,
             pycurl.HEADERFUNCTION: answer.guarded(answer.take_line), pycurl.WRITEFUNCTION: answer.take_body,
             pycurl.OPENSOCKETFUNCTION: answer.guarded(connect), pycurl.BUFFERSIZE: RECEIVED, pycurl.NOSIGNAL: 1,
-            pycurl.PROXY: proxy, pycurl.NOPROXY: "", SUPPRESS_CONNECT_HEADERS: 1,
-            pycurl.CONNECTTIMEOUT_MS: int(self.timeout * 1000),
+            pycurl.PROXY: proxy, pycurl.NOPROXY: "", SUPPRESS_CONNECT_HEADERS: 1, pycurl.NOPROGRESS: 0, pycurl.XFERINFOFUNCTION: answer.guarded(watch),
+            pycurl.CONNECTTIMEOUT_MS: int(self.timeout * 1000), QUICK_EXIT: 1,  # so that a name that is not resolved in time is not waited for
             pycurl.LOW_SPEED_LIMIT: SLOWEST, pycurl.LOW_SPEED_TIME: round(self.timeout) or 1,
         } | body | {option: str(path) for option, path in files if path}
 
     def ask(self, frame: Frame, place: Place, again: bool, upload: Upload | None = None) -> None:
         """Sends a request, and receives what comes first of its answer; `again` if the connection fails before it."""
         self.leave()
-        self.curl, self.answer = pycurl.Curl(), Answer(self.headers, self.room)
+        curl, self.answer = pycurl.Curl(), Answer(self.headers, self.room)
         for option, value in self.options(frame, place, self.answer, upload).items():
-            self.curl.setopt(option, value)
-        self.multi.add_handle(self.curl)
+            curl.setopt(option, value)
+        self.multi.add_handle(curl)
+        self.curl = curl
         try:
             self.receive()
         except ConnectionError:
@@ -266,10 +280,14 @@ class Network:
             self.curl.close()
             self.curl = None
 
+    def __del__(self) -> None:
+        self.leave()  # else pycurl ends the process, since libcurl calls back while its handle is closed
+
     def request(self, frame: Frame, body: Iterable[bytes]) -> tuple[Frame, bytes]:
         """The answer to a request, which is sent once more as often as a busy registry asks for it in time; or what is remembered of it."""
         self.url, self.size, self.began = frame["url"], 0, time.monotonic()
         place, method = place_of(self.url), frame["method"]
+        frame = frame | {"headers": [[name, plain(value)] for name, value in frame["headers"]]}
         self.access.check(place, frame["headers"], self.realms)
         self.is_token, self.realms = place in self.realms, set()
         is_first = place == self.access.own
@@ -338,7 +356,8 @@ class Network:
         try:
             return self.request(frame, body) if frame["frame"] == "request" else self.more()
         except (OSError, ValueError, pycurl.error) as error:
-            self.failure = f"{shown(self.url)}: {PROXY.sub('', str(error.args[-1]))}"
+            why = str(error.args[-1])
+            self.failure = f"{shown(self.url)}: {why.replace(self.proxy, 'PROXY') if self.proxy else why}"  # which may have a password
             self.leave()
             self.answer = Answer(0)
             return {"frame": "failed"}, b""

@@ -3,10 +3,12 @@ import ipaddress
 import re
 from pathlib import Path
 from typing import Any, Iterable, NamedTuple
+from urllib.parse import unquote
 
 URL = re.compile(r"(https?)://([a-z0-9._-]+|\[[0-9a-f:.]+\])(?::(\d{1,5}))?(/[!-~]*)?", re.ASCII | re.IGNORECASE)
 FIELD = re.compile(rb"([!#$%&'*+.^_`|~0-9A-Za-z-]+):([\t -~\x80-\xff]*)\r?\n")  # RFC 9110, 5.1 and 5.5
 LOOPBACK = re.compile(r"(localhost|127(\.\d{1,3}){3}|\[::1\])(:\d+)?", re.ASCII)
+NUMBER = re.compile(r"(.*\.)?(\d+|0x[0-9a-f]*)\.?", re.ASCII | re.IGNORECASE)  # a host that libcurl, and others, take for an address of IPv4, as 127.1
 PORTS = {"http": 80, "https": 443}
 GLOBAL, NAT64 = ipaddress.IPv6Network("2000::/3"), ipaddress.IPv6Network("64:ff9b::/96")
 
@@ -20,8 +22,13 @@ class Place(NamedTuple):
 
 
 def shown(url: str) -> str:
-    """A URL as sentences have it: without its query, which may be a secret."""
-    return url.partition("?")[0]
+    """A URL as sentences have it: without its query, its fragment and its user, which may be secrets."""
+    return re.sub(r"^(\w+://)[^/]*@", r"\1", re.split("[?#]", url)[0])
+
+
+def cut(text: str) -> str:
+    """A text with its URLs as sentences have them."""
+    return re.sub(r'(?<=://)(?:[^/\s"]*@)?([^\s"?#]*)(?:[?#][^\s"]*)?', r"\1", text)
 
 
 def place_of(url: str) -> Place:
@@ -29,7 +36,7 @@ def place_of(url: str) -> Place:
     if not match:
         raise ValueError("it is not a URL that requests are sent to")
     scheme = match[1].lower()
-    return Place(scheme, match[2].lower(), int(match[3] or PORTS[scheme]), shown(match[4] or "/"))
+    return Place(scheme, match[2].lower(), int(match[3] or PORTS[scheme]), (match[4] or "/").partition("?")[0])
 
 
 def is_loopback(name: str) -> bool:
@@ -42,7 +49,7 @@ def is_public(host: str) -> bool:
     try:
         ip: Any = ipaddress.ip_address(host.strip("[]").partition("%")[0])
     except ValueError:
-        return host != "localhost"
+        return host.rstrip(".") != "localhost" and not NUMBER.fullmatch(host)
     if ip.version == 6:
         ip = ip.ipv4_mapped or ip.sixtofour or (ipaddress.IPv4Address(int(ip) & 0xFFFFFFFF) if ip in NAT64 else ip)
     return ip.is_global and not ip.is_multicast and (ip.version == 4 or ip in GLOBAL)
@@ -81,7 +88,7 @@ class Access:
             raise ValueError(f"it is not requested, since {place.host} is not a public address; name it by --allow-host if you trust it")
         if not all(FIELD.fullmatch(f"{name}:{value}\n".encode()) for name, value in headers):
             raise ValueError("it is not requested, since a header of it is malformed")
-        below = place.path.startswith("/v2/") and "/.." not in place.path
+        below = place.path.startswith("/v2/") and "/.." not in unquote(place.path).replace("\\", "/")  # as some servers read it
         if not below and place not in realms and any(name.lower() == "authorization" for name, _ in headers):
             raise ValueError("it is not requested, since credentials are sent below /v2/ and to the realm alone")
 

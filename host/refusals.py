@@ -2,7 +2,7 @@
 import json
 import re
 
-from host.places import shown
+from host.places import cut, shown
 
 WORD = re.compile(r'"(?:[^"\\]|\\.)*"|\S+')
 KEYS = "sign it (cosign sign --key), or check that --key and --annotation are the publisher's"
@@ -15,6 +15,7 @@ ANSWERS = {
     "BodyTooLong": ("a body is longer than the limit", TAMPERED),
     "VerificationError": ("the content with the digest {0} has the digest {1}", TAMPERED),
     "ImageManifestNotFoundError": ("its index has no image for this platform", "choose another --platform"),
+    "HeaderText": ("a token, or a --type, is not a valid value of a header", "check --type; else tell the operator of the token service"),
     "IncompatibleLayerMediaTypeError": ("a layer has the type {0}, which is not accepted", "accept it by --type, or choose another image"),
     "PullNoLayersError": ("its manifest has no layers", "choose another image"),
     "TransportFault": ("the connection failed ({failure})", "check that the registry is running and its name is right"),
@@ -44,9 +45,9 @@ class Refusals:
         if url := self.url(words):
             status = self.statuses.get(shown(url))
             return f"{shown(url)} returned the status {status}", "check the name and the tag" if status == 404 else ASK
-        name, *kept = words[1:] if words[0] == "DigestError" else words
+        name, *kept = words[1:] if words[0] in ("DigestError", "GenericError") else words
         if name not in ANSWERS:
-            return f"a response is refused as {' '.join(words)}", ASK
+            return f"a response is refused as {' '.join(map(shown, words))}", ASK
         what, advice = ANSWERS[name]
         return what.format(*map(shown, kept), failure=self.failure, because=self.failure and f" ({self.failure})"), advice
 
@@ -58,7 +59,7 @@ class Refusals:
         for words in lines:
             if words[1] == "Layer":
                 advice = "give --certificate-identity, --certificate-oidc-issuer and --trusted-root" if words[4] == "NoLogEntry" else KEYS
-                return f"the signature {words[3]} of {digest} is refused as {' '.join(words[4:])}{self.why and f' ({self.why})'}", advice
+                return f"the signature {words[3]} of {digest} is refused as {' '.join(map(shown, words[4:]))}{self.why and f' ({self.why})'}", advice
             cause = words[words.index("Refused") + 3:] if "Refused" in words else []
             if cause and self.statuses.get(shown(self.url(cause))) != 404:
                 what, advice = self.answer(cause)
@@ -73,5 +74,5 @@ class Refusals:
             what, advice = self.unsigned(kept[0], lines[1:]) if name == "Unsatisfied" else self.answer(cause)
             what = {"Push": "{} was not pushed: ", "Tag": "it is not known what {} names: "}.get(name, "").format(*kept[:1]) + what
         except (ValueError, LookupError):  # what a registry wrote is in the report
-            what, advice = f"its report is {json.dumps(report)}", ASK
+            what, advice = f"its report is {json.dumps(cut(report))}", ASK
         return f"refused {reference}: {what}; {advice}"

@@ -1,9 +1,10 @@
 """What the command writes on its standard streams, and the statuses that it ends with. Nothing that is written moves a terminal's cursor."""
 import contextlib
 import json
-import re
 import sys
 from typing import Any
+
+from host.places import cut
 
 STATUSES = "exit status: 0 success, 1 refused, 2 wrong usage, 3 invalid reference, 4 stopped or failed, 5 not written, 6 out of memory"
 LONGEST = 4000  # characters of a sentence, in which a registry's text may be
@@ -27,21 +28,16 @@ def printable(text: str) -> str:
     return "".join(c if c.isprintable() else "?" for c in text)
 
 
-def without_secrets(text: str) -> str:
-    """The text, with no user, password or query in its URLs."""
-    return re.sub(r'(://)(?:[^\s"/?]*@)?([^\s"?]*)(?:\?[^\s"]*)?', r"\1\2", text)
-
-
 def say(text: str) -> None:
     """Writes a line of a log, which nobody has to read."""
     with contextlib.suppress(OSError):
-        print(printable(without_secrets(text)), file=sys.stderr, flush=True)
+        print(printable(cut(text)), file=sys.stderr, flush=True)
 
 
 def tell(words: list[str], place: str, status: int, sentence: str, rest: dict[str, Any]) -> None:
-    """Writes how the command ended: the sentence, or one JSON object."""
-    sentence = without_secrets(sentence)
-    sentence, rest = sentence if len(sentence) <= LONGEST else f"{sentence[:LONGEST]}..", rest | ({"report": without_secrets(rest["report"])} if "report" in rest else {})
+    """Writes how the command ended: the sentence, or one JSON object. In its report too, URLs are as sentences have them."""
+    sentence = cut(sentence)
+    sentence, rest = sentence if len(sentence) <= LONGEST else f"{sentence[:LONGEST]}..", rest | ({"report": cut(rest["report"])} if "report" in rest else {})
     if "--json" in words:
         outcome = OUTCOMES.get(status) or sentence.partition(" ")[0]
         more = {name: value for name, value in rest.items() if name != "frame"}

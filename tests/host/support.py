@@ -99,6 +99,7 @@ def registry(tls=None, documents=None, **ways):
 
 class WithFolder(unittest.TestCase):
     """A folder with a key, and runs of the command in it, over a core that believes almost everything."""
+    command: list = [TOP / "bin/roksnaep"]
 
     def setUp(self):
         kept = tempfile.TemporaryDirectory()
@@ -122,7 +123,7 @@ class WithFolder(unittest.TestCase):
         return {name: value for name, value in (kept | {"ROKSNAEP_CORE": str(HERE / "fake_core.py"), "ROKSNAEP_PROGRAM": str(HERE / "fake_program.py"), "FAKE": fake, "DOCKER_CONFIG": str(self.folder)} | more).items() if value is not None}
 
     def start(self, *words, fake="", env=None, **more):
-        return subprocess.Popen([TOP / "bin/roksnaep", *words], stdin=subprocess.PIPE, stdout=more.pop("stdout", subprocess.PIPE),
+        return subprocess.Popen([*self.command, *words], stdin=subprocess.PIPE, stdout=more.pop("stdout", subprocess.PIPE),
                                 stderr=subprocess.PIPE, text=True, cwd=self.folder, env=self.environment(fake, **(env or {})), **more)
 
     def run_it(self, *words, stdin="", **more):

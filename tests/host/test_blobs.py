@@ -9,7 +9,7 @@ import unittest
 
 from support import CONFIG, IMAGE, LAYERS, MANIFEST, WithFolder, digest_of, manifest_of, registry
 
-from host.blobs import parsed, ranges, refused_layer
+from host.blobs import beginning, parsed, ranges, refused_layer
 
 LARGE = os.urandom(3 << 20)
 OTHER = manifest_of(CONFIG, [LARGE, LAYERS[0]])
@@ -50,6 +50,11 @@ class Parts(unittest.TestCase):
         found = ranges([1000, *[1 << 20] * 200])
         self.assertEqual(sorted(at for span in found for at in span), list(range(201)))
         self.assertLess(len(found), 20)
+
+    def test_where_a_range_begins(self):
+        for text, begins in (("bytes 5-9/10", 5), ("bytes 0-9/*", 0), (f"bytes {'9' * 5000}-9/10", None), (f"bytes 5-{'9' * 5000}/{'9' * 5000}", 5), ("bytes \u0665-9/10", None),
+                             ("bytes -5-9/10", None), ("bytes */10", None), ("", None), ({"base64": "w6k="}, None)):
+            self.assertEqual(beginning({"frame": "answer", "status": 206, "headers": [["content-range", text]]}), begins, text)
 
     def test_manifests_that_no_frame_has(self):
         self.assertEqual(parsed(MANIFEST), json.loads(MANIFEST))

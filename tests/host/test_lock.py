@@ -56,7 +56,7 @@ class Locks(WithFolder):
                 ended, out, err = self.lock(f"{place}/app:v1", fake=f"last 1 {word}")
                 self.assertEqual((ended, out, "the core ended unexpectedly" in err, file.exists()), (4, "", True, False), err)
             self.assertEqual(self.lock(f"{place}/app:v1")[0], 0)
-            for status in (1, 6, -9):
+            for status in (1, -9):
                 ended, out, err = self.check(fake=f"last {status} lockcheck")
                 self.assertEqual((ended, out, err), (4, "", f"stopped roksnaep.lock: the core ended unexpectedly, with the status {status}\n"))
             ended, out, err = self.pull(place, "--lock", "roksnaep.lock", fake="last -9 lockcheck")
@@ -120,7 +120,7 @@ class Locks(WithFolder):
         with registry(documents=self.signed()) as (place, _):
             self.assertEqual(self.lock(f"{place}/app:v1")[0], 0)
         for status, told in ((3, "failed roksnaep.lock: the reference is invalid, or --platform is not OS/ARCH; write registry/name:tag"),
-                             (6, "failed roksnaep.lock: out of memory; run it with more"), (7, "stopped roksnaep.lock: the core ended with the status 7")):
+                             (6, "failed roksnaep.lock: out of memory; run it with more"), (7, "stopped roksnaep.lock: the core ended unexpectedly, with the status 7")):
             self.assertEqual(self.check(fake=f"ends {status}")[::2], (4 if status == 7 else status, f"{told}\n"))
 
     def test_documents_that_no_line_has(self):
