@@ -1,24 +1,29 @@
 """An admission webhook of Kubernetes over HTTPS: cores read reviews, decide them side by side, and write the responses, which are sent unchanged."""
 import asyncio
 import contextlib
+import functools
 import json
+import logging
 import ssl
 import threading
 import time
 from concurrent.futures import ThreadPoolExecutor
 from pathlib import Path
-from typing import Any, Callable, Iterable, Protocol
+from typing import Any, Awaitable, Callable, Iterable, Protocol
 
 from aiohttp import web
 
 from host.core import Core, Frame
 from host.files import read
+from host.places import cut
 from host.rules import Rule
 from host.signatures import Signatures
-from host.terminal import say
+from host.terminal import printable, say
 
 VERSION, LONGEST, LINE, REVIEWS = "admission.k8s.io/v1", 1 << 20, 1 << 20, 1 << 32
-LATE = "not decided in time"
+LATE = "not decided in time; ask for fewer images, or raise --deadline and the webhook's timeoutSeconds"
+IMAGES = 100  # the most of a Pod, so that a few Pods cannot have all other reviews wait
+GRACE, IDLE = 1, 30  # seconds: for a core that is late, and for a connection without a whole head of a request
 # a response, "" if the text is not a review, and the images that a rule covers
 Decided = tuple[str, list[str]]
 
@@ -46,6 +51,8 @@ class Decider:
         core.input.write(line)
         core.input.flush()
         while (frame := core.read())["frame"] not in ("response", "unreadable"):
+            if time.monotonic() > end + GRACE:  # each image that is left fails at once, but there may be thousands
+                raise TimeoutError(LATE)
             body = b"".join(core.body(frame))
             match frame["frame"]:
                 case "image":
@@ -59,7 +66,7 @@ class Decider:
                     raise ValueError(f"the core wrote the frame {name}")
         response = str(frame.get("response", ""))
         if response and json.loads(response)["response"]["allowed"]:
-            if unsigned := images_of(line) - {image for image, signatures in asked if signatures.signers}:
+            if unsigned := set(images_of(json.loads(json.loads(line)["review"]))) - {image for image, signatures in asked if signatures.signers}:
                 raise ValueError(f"it allowed {min(unsigned)}, of which no signature was found valid")
         return response, [image for image, _ in asked]
 
@@ -79,7 +86,7 @@ class Deciders:
         try:
             return decider.decide(line, end)
         except Exception:  # whatever was not foreseen allows nothing
-            decider.core.process.kill()
+            decider.core.close()
             del self.own.decider
             raise
 
@@ -93,11 +100,19 @@ def frame_of(text: str, mutate: bool, moment: int) -> bytes:
     return line
 
 
-def images_of(line: bytes) -> set[str]:
-    """The images that the review in a frame names, which the core has read too."""
-    spec = json.loads(json.loads(line)["review"])["request"]["object"]["spec"]
-    containers = [one for name in ("initContainers", "containers", "ephemeralContainers") for one in spec.get(name, [])]
-    return {one["image"] for one in containers} | {one["image"]["reference"] for one in spec.get("volumes", []) if "image" in one}
+def images_of(review: Any) -> list[str]:
+    """The images that a review of a Pod names, as the core reads them."""
+    spec = review["request"]["object"]["spec"]
+    containers = [one for name in ("initContainers", "containers", "ephemeralContainers") for one in spec.get(name) or ()]
+    return [one["image"] for one in containers] + [one["image"]["reference"] for one in spec.get("volumes") or () if "image" in one]
+
+
+def count_of(text: str) -> int:
+    """How many images a review of a Pod is about, and zero for what is none: the core says what is one."""
+    try:
+        return len(images_of(json.loads(text)))
+    except (ValueError, LookupError, TypeError, AttributeError, RecursionError):
+        return 0
 
 
 def denied(text: str, why: str) -> str:
@@ -118,7 +133,7 @@ def logged(text: str, response: str, images: list[str], milliseconds: int) -> st
     review, said = json.loads(text), json.loads(response)["response"]
     line = {"uid": said["uid"], "namespace": member(review, "request", "namespace"), "images": images, "allowed": said["allowed"],
             "milliseconds": milliseconds}
-    return json.dumps(line | ({"denied": said["status"]["message"]} if "status" in said else {}))
+    return json.dumps(line | ({"denied": cut(said["status"]["message"])} if "status" in said else {}))
 
 
 class Webhook:
@@ -127,13 +142,14 @@ class Webhook:
     def __init__(self, decide: Callable[[bytes, float], Decided], jobs: int, seconds: float) -> None:
         self.decide, self.seconds, self.pool = decide, seconds, ThreadPoolExecutor(jobs)
 
-    async def decided(self, text: str, mutate: bool) -> Decided:
+    async def decided(self, text: str, mutate: bool, end: float) -> Decided:
         """The response to a review. What is not decided in time, or by a core that breaks, is denied."""
-        end = time.monotonic() + self.seconds
         line = frame_of(text, mutate, int(time.time()))
+        if (count := count_of(text)) > IMAGES:
+            return denied(text, f"it has {count} images, and at most {IMAGES} are decided; split the Pod"), []
         task = asyncio.get_running_loop().run_in_executor(self.pool, self.decide, line, end)
         task.add_done_callback(lambda done: done.exception())  # it may end after its response
-        await asyncio.wait([task], timeout=self.seconds)
+        await asyncio.wait([task], timeout=end - time.monotonic())
         if not task.done() or time.monotonic() > end:
             return denied(text, LATE), []
         if error := task.exception():
@@ -142,17 +158,65 @@ class Webhook:
 
     async def answer(self, request: web.Request) -> web.Response:
         began = time.monotonic()
-        if request.content_type != "application/json":
-            raise web.HTTPBadRequest(text="send the review as application/json\n")
+        if request.content_type != "application/json" or request.headers.get("Content-Encoding", "identity").lower() != "identity":
+            raise web.HTTPBadRequest(text="send the review as application/json, without a content encoding\n")
         try:
-            text = (await request.read()).decode()
-            response, images = await self.decided(text, request.path == "/mutate")
-        except ValueError as error:
+            async with asyncio.timeout(self.seconds):
+                text = (await request.read()).decode()
+            response, images = await self.decided(text, request.path == "/mutate", began + self.seconds)
+        except TimeoutError:
+            raise web.HTTPRequestTimeout(text="the review did not arrive in time; send it at once\n") from None
+        except (ValueError, web.RequestPayloadError) as error:
             raise web.HTTPBadRequest(text=f"{error}\n") from None
         if not response:
             raise web.HTTPBadRequest(text="not a review of a Pod\n")
         say(logged(text, response, images, round(1000 * (time.monotonic() - began))))
         return web.Response(text=response, content_type="application/json")
+
+
+class Connection(web.RequestHandler):
+    """A connection on which a caller waits for a response before the next request. It is closed if the head of a request does not come in time, for which aiohttp
+    has no limit before a first request, and if more requests come, of which aiohttp would hold any number."""
+
+    def wait(self) -> None:
+        self.timer = asyncio.get_running_loop().call_later(IDLE, self.abort)
+
+    def abort(self) -> None:
+        if self.transport:
+            self.transport.abort()  # without the end of TLS, which the other side may not send
+
+    def connection_made(self, transport: asyncio.BaseTransport) -> None:
+        super().connection_made(transport)
+        self.wait()
+
+    def connection_lost(self, error: BaseException | None) -> None:
+        super().connection_lost(error)
+        self.timer.cancel()
+
+    def data_received(self, data: bytes) -> None:
+        super().data_received(data)
+        if len(self._messages) > 1:
+            self.abort()
+
+
+@web.middleware
+async def awaited(request: web.Request, handler: Callable[[web.Request], Awaitable[web.StreamResponse]]) -> web.StreamResponse:
+    """Answers a request whose head has come; from then on the next one is waited for."""
+    connection = request.protocol
+    assert isinstance(connection, Connection)
+    connection.timer.cancel()
+    try:
+        return await handler(request)
+    finally:
+        connection.wait()
+
+
+class Line(logging.Formatter):
+    """What goes wrong with a connection, as a line of the log: a caller can have it written as often as he likes."""
+
+    def format(self, record: logging.LogRecord) -> str:
+        error = record.exc_info[1] if record.exc_info else None
+        return printable(f"{record.getMessage()}: {type(error).__name__}: {error}" if error else record.getMessage())
 
 
 async def health(_: web.Request) -> web.Response:
@@ -171,22 +235,28 @@ def load(context: ssl.SSLContext, files: tuple[Path, Path]) -> None:
 
 async def serve(webhook: Webhook, place: tuple[str, int], files: tuple[Path, Path], signals: Iterable[int]) -> None:
     """Serves reviews until one of the signals comes. The certificate and its key are read again when their files change."""
-    stopped = asyncio.Event()
+    stopped, loop = asyncio.Event(), asyncio.get_running_loop()
     for number in signals:
-        asyncio.get_running_loop().add_signal_handler(number, stopped.set)
+        loop.add_signal_handler(number, stopped.set)
     context = ssl.create_default_context(ssl.Purpose.CLIENT_AUTH)
     context.minimum_version = ssl.TLSVersion.TLSv1_2
     load(context, files)
     changed = [path.stat().st_mtime_ns for path in files]
-    server = web.Application(client_max_size=LONGEST)
+    handler = logging.StreamHandler()
+    handler.setFormatter(Line())
+    logging.basicConfig(handlers=[handler])
+    server = web.Application(client_max_size=LONGEST, middlewares=[awaited])
     server.add_routes([web.post("/validate", webhook.answer), web.post("/mutate", webhook.answer), web.get("/healthz", health)])
-    runner = web.AppRunner(server, access_log=None)
+    runner = web.AppRunner(server)
     await runner.setup()
+    manager = runner.server
+    assert manager
+    connection = functools.partial(Connection, manager, loop=loop, auto_decompress=False)  # which would inflate a body beyond its limit
     try:
-        await web.TCPSite(runner, *place, ssl_context=context, shutdown_timeout=1).start()
+        site = await loop.create_server(connection, *place, ssl=context, ssl_handshake_timeout=IDLE, ssl_shutdown_timeout=1)
     except (OSError, UnicodeError) as error:
         raise OSError(f"{place[0]} port {place[1]} cannot be listened on ({error}); choose another --listen") from None
-    bound = runner.addresses[0]
+    bound = site.sockets[0].getsockname()
     say(f"listening on {bound[0]}:{bound[1]}")
     while not stopped.is_set():
         with contextlib.suppress(asyncio.TimeoutError):
@@ -198,4 +268,6 @@ async def serve(webhook: Webhook, place: tuple[str, int], files: tuple[Path, Pat
         except OSError as error:  # half written: the old one stands until both fit
             changed = []
             say(f"the certificate is not read again: {error}")
+    site.close()
+    await manager.shutdown(1)
     await runner.cleanup()

@@ -19,7 +19,7 @@ TOP = Path(__file__).resolve().parent.parent
 sys.path[:0] = [str(TOP), str(TOP / "tests")]
 from registry import HASH, Registry, Skipped, door, layers_of, make_layout, ran, sign  # noqa: E402
 
-COMMAND, LATE, MINUTE = TOP / "bin/roksnaep", "not decided in time", 60
+COMMAND, LATE, MINUTE = TOP / "bin/roksnaep", "not decided in time; ask for fewer images, or raise --deadline and the webhook's timeoutSeconds", 60
 PODS, LONGEST = 10_000, 200  # how many Pods in a row, and for how many seconds at most
 
 
