@@ -1,10 +1,11 @@
 // Questions to the host, and its answers.
-ghost use Rattle.std.specs.Prelude.{◌≡◌, IfOk, IfErr, OnOk, length, []};
+ghost use Rattle.std.specs.Prelude.{◌≡◌, All, IfOk, IfErr, OnOk, length, []};
 ghost use Rattle.serde_json.specs.View.{view};
 ghost use Rattle.json_tables.specs.Outcomes.{ReadsTo};
 ghost use Rattle.cosign_parts.specs.LogEntry.{log_text};
 ghost use Rattle.live_host.specs.Heads.{verify_head, judge_head};
 ghost use Rattle.live_host.specs.Questions.{verified_of, vouched_of, answer_of, AsksMore, WereAsked};
+ghost use Rattle.live_host.specs.Questions.{evidence_at, CertificateAsked, KeyAsked, LayerAsked, LogAsked};
 ghost use Rattle.live_host.specs.HostErrors.{HostCause};
 ghost use Rattle.live_host.specs.Wire.{wire, SendsAndReceives};
 
@@ -155,6 +156,7 @@ fn ask_key<S: Source, K: Sink>(
 ) -> Result<(), HostError>
     ensures asked { OnOk result (AsksMore answers.old answers.new
         (wire S.state K.state streams.old) (wire S.state K.state streams.new)) }
+    ensures about { OnOk result (KeyAsked answers.new message.now signature.now key.now) }
     ensures cause { IfErr result (λ e. HostCause e (wire S.state K.state streams.new)) }
 {
     let valid = ask_signature(alloc, streams, key, message, signature)?;
@@ -174,6 +176,7 @@ fn ask_keys<S: Source, K: Sink>(
 ) -> Result<(), HostError>
     ensures asked { OnOk result
         (AsksMore answers.old answers.new (wire S.state K.state streams.old) (wire S.state K.state streams.new)) }
+    ensures about { OnOk result (All (KeyAsked answers.new message.now signature.now) keys.now) }
     ensures cause { IfErr result (λ e. HostCause e (wire S.state K.state streams.new)) }
 {
     for key in keys {
@@ -193,6 +196,7 @@ fn ask_vouched<S: Source, K: Sink>(
 ) -> Result<(), HostError>
     ensures asked { OnOk result
         (AsksMore answers.old answers.new (wire S.state K.state streams.old) (wire S.state K.state streams.new)) }
+    ensures about { OnOk result (CertificateAsked answers.new message.now signature.now evidence.now) }
     ensures cause { IfErr result (λ e. HostCause e (wire S.state K.state streams.new)) }
 {
     let vouched = ask_certificate(alloc, streams, evidence)?;
@@ -215,6 +219,7 @@ fn ask_log<S: Source, K: Sink>(
 ) -> Result<(), HostError>
     ensures asked { OnOk result (AsksMore answers.old answers.new
         (wire S.state K.state streams.old) (wire S.state K.state streams.new)) }
+    ensures about { OnOk result (LogAsked answers.new log_keys.now layer.now.bundle) }
     ensures cause { IfErr result (λ e. HostCause e (wire S.state K.state streams.new)) }
 {
     let Some(entry) = &layer.bundle else {
@@ -243,7 +248,9 @@ fn log_message(alloc: Global, entry: &LogEntryBundle) -> Result<Blob, AllocError
 }
 
 // A layer's certificate at the time of its log entry.
-fn evidence_of(alloc: Global, layer: &SignatureLayer) -> Result<Option<Evidence>, AllocError> {
+fn evidence_of(alloc: Global, layer: &SignatureLayer) -> Result<Option<Evidence>, AllocError>
+    ensures { IfOk result (λ found. found ≡ evidence_at layer.now.bundle layer.now.certificate_signature) }
+{
     let Some(entry) = &layer.bundle else {
         return Ok(None);
     };
@@ -269,6 +276,7 @@ fn ask_layer<S: Source, K: Sink>(
 ) -> Result<(), HostError>
     ensures asked { OnOk result (AsksMore answers.old answers.new
         (wire S.state K.state streams.old) (wire S.state K.state streams.new)) }
+    ensures about { OnOk result (LayerAsked answers.new keys.now log_keys.now layer.now) }
     ensures cause { IfErr result (λ e. HostCause e (wire S.state K.state streams.new)) }
 {
     let Some(signature) = decode_base64(alloc, layer.signature.as_str())? else {
@@ -296,6 +304,7 @@ pub fn ask_layers<S: Source, K: Sink>(
 ) -> Result<Answers, HostError>
     ensures asked { IfOk result (λ answers. WereAsked answers.list (wire S.state K.state streams.old)
         (wire S.state K.state streams.new)) }
+    ensures about { IfOk result (λ answers. All (LayerAsked answers.list keys.now log_keys.now) layers.now) }
     ensures cause { IfErr result (λ e. HostCause e (wire S.state K.state streams.new)) }
 {
     let mut list = List::new(alloc);

@@ -1,4 +1,5 @@
-use Rattle.live_host.proofs.QuestionSteps.{asks_both, asks_none}
+use Rattle.std.proofs.Common.{Some, None, sym, ◌∙◌}
+use Rattle.live_host.proofs.QuestionSteps.{asks_both, asks_none, layer_asked}
 use Rattle.live_host.proofs.questions.ask_layer.Goals as goal
 
 pub returns-in_default-clause-asked : goal.returns-in_default-clause-asked
@@ -9,3 +10,15 @@ returns-in_default-evidence-clause-asked g c = asks_both _ _ _ _ _ _ c.in_ok-ask
 
 pub returns-clause-asked : goal.returns-clause-asked
 returns-clause-asked g c = asks_both _ _ _ _ _ _ c.in_ok-ask_log.ensures.asked c.in_ok-ask_vouched.ensures.asked
+
+pub returns-in_default-evidence-clause-about : goal.returns-in_default-evidence-clause-about
+returns-in_default-evidence-clause-about g c =
+    layer_asked _ _ _ _ c.args.keys.now c.args.log_keys.now c.args.layer.now c.in_ok-message.message c.in-Some.signature None
+    (rw c.as_str.ensures at (sym c.in_ok-signature.ensures ∙ c.in-Some.is)) c.in_ok-message.ensures.text (sym c.in_ok-evidence.ensures ∙ c.in_default-evidence.is)
+    c.in_ok-ask_log.ensures.about c.in_ok-ask_keys.ensures.asked c.in_ok-ask_keys.ensures.about
+
+pub returns-clause-about : goal.returns-clause-about
+returns-clause-about g c =
+    layer_asked _ _ _ _ c.args.keys.now c.args.log_keys.now c.args.layer.now c.in_ok-message.message c.in-Some.signature (Some c.in-Some-evidence.evidence)
+    (rw c.as_str.ensures at (sym c.in_ok-signature.ensures ∙ c.in-Some.is)) c.in_ok-message.ensures.text (sym c.in_ok-evidence.ensures ∙ c.in-Some-evidence.is)
+    c.in_ok-ask_log.ensures.about c.in_ok-ask_vouched.ensures.asked c.in_ok-ask_vouched.ensures.about
