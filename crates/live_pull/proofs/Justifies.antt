@@ -38,11 +38,11 @@ use Rattle.live_pull.specs.declared.settings.LiveSettings.{LiveSettings}
 use Rattle.live_pull.specs.declared.status.Status.{Status}
 use Rattle.live_pull.specs.declared.status.Status.TheVariants as status
 use Rattle.live_pull.proofs.Policies.{policy_is}
-use Rattle.live_pull.specs.Course.{AfterSearchBy, CourseBy, DocumentsTold, Giving, NothingTold}
+use Rattle.live_pull.specs.Course.{AfterSearchBy, Asking, CourseBy, DocumentsTold, Giving, NothingTold}
 use Rattle.live_pull.specs.Decided.{DecidedDocuments, DecidedFrom, Decides, EndsEarly}
 use Rattle.live_pull.specs.DocumentsJustified.{AfterJustified, DecisionJustified, FoundJustified, JustifiedBy}
 use Rattle.live_pull.specs.LiveDocuments.{LiveDocuments}
-use Rattle.live_pull.specs.Rows.{collect_for, collect_row, decide_for, decide_row, everyone_of}
+use Rattle.live_pull.specs.Rows.{asks_for, asks_of, collect_for, collect_row, decide_for, decide_row, everyone_of}
 use Rattle.live_pull.specs.DocumentsTerms.{AreTerms}
 use Rattle.live_pull.proofs.CourseParts.{decides_as}
 use Rattle.live_pull.proofs.RowsSame.{collected_same, decided_same}
@@ -105,7 +105,7 @@ module _ (Gives : Giving) (settings : LiveSettings) (image : Reference) (direct 
       shown_by (decide_row settings image answers found) (λ c. Within (pulling k.0 (context_of settings) image (Some settings.auth)) (context_of settings).settings l.0 c) old new k l r t
       (decided_confined (meaning_of settings answers) (context_of settings) image settings.auth found r direct (meets (decide_row settings image answers found) old new k l r kept t))
 
-  after_justified : (k l : Kept) (found : Result TrustedLayers PullRefusal) (old new : Wire) (r : Result VerifiedDocuments PullRefusal) → IsKept r → (after : AfterSearchBy Gives (decide_row settings image) k l found old new r) → AfterJustified Gives settings image k l found old new r after
+  after_justified : (k l : Kept) (found : Result TrustedLayers PullRefusal) (old new : Wire) (r : Result VerifiedDocuments PullRefusal) → IsKept r → (after : AfterSearchBy Gives (asks_of settings) (decide_row settings image) k l found old new r) → AfterJustified Gives settings image k l found old new r after
   after_justified k l (Ok found) old new r kept after = (
     decision_justified after.answers found k l after.asked_at after.finished.decided_at r kept after.finished.decision,
     decision_confined after.answers found k l after.asked_at after.finished.decided_at r kept after.finished.decision,
@@ -113,11 +113,11 @@ module _ (Gives : Giving) (settings : LiveSettings) (image : Reference) (direct 
   after_justified k l (Err e) old new r kept after = tt
 
   -- the search did not run out of memory, since its error is the result
-  found_kept : (k l : Kept) (found : Result TrustedLayers PullRefusal) (old new : Wire) (r : Result VerifiedDocuments PullRefusal) → IsKept r → AfterSearchBy Gives (decide_row settings image) k l found old new r → IsKept found
+  found_kept : (k l : Kept) (found : Result TrustedLayers PullRefusal) (old new : Wire) (r : Result VerifiedDocuments PullRefusal) → IsKept r → AfterSearchBy Gives (asks_of settings) (decide_row settings image) k l found old new r → IsKept found
   found_kept k l (Ok found) old new r kept after = tt
   found_kept k l (Err e) old new r kept after = rw after.0 at kept
 
-  pub justified : (k l : Kept) (old new : Wire) (r : Result VerifiedDocuments PullRefusal) → IsKept r → (course : CourseBy Gives (collect_row settings image) (decide_row settings image) k l old new r) → JustifiedBy Gives settings image k l old new r course
+  pub justified : (k l : Kept) (old new : Wire) (r : Result VerifiedDocuments PullRefusal) → IsKept r → (course : CourseBy Gives (asks_of settings) (collect_row settings image) (decide_row settings image) k l old new r) → JustifiedBy Gives settings image k l old new r course
   justified k l old new r kept course =
       let searched = found_kept course.kept l course.found course.searched_at new r kept course.after in
       record {
@@ -128,36 +128,37 @@ module _ (Gives : Giving) (settings : LiveSettings) (image : Reference) (direct 
 
 -- ---- by the settings
 
-after_as : (decide same : Answers → TrustedLayers → Whole VerifiedDocuments) (k l : Kept) (found : Result TrustedLayers PullRefusal) (old new : Wire) (r : Result VerifiedDocuments PullRefusal) → ((answers : Answers) (layers : TrustedLayers) → decide answers layers ≡ same answers layers)
-    → AfterSearchBy NothingTold decide k l found old new r → AfterSearchBy NothingTold same k l found old new r
-after_as decide same k l (Ok found) old new r is after = record {
+after_as : (Asks Same : Asking) (decide same : Answers → TrustedLayers → Whole VerifiedDocuments) (k l : Kept) (found : Result TrustedLayers PullRefusal) (old new : Wire) (r : Result VerifiedDocuments PullRefusal) → ((answers : Answers) (layers : TrustedLayers) → decide answers layers ≡ same answers layers) → ((answers : Answers) (layers : TrustedLayers) → Asks answers layers → Same answers layers)
+    → AfterSearchBy NothingTold Asks decide k l found old new r → AfterSearchBy NothingTold Same same k l found old new r
+after_as Asks Same decide same k l (Ok found) old new r is asks after = record {
   asked_at = after.asked_at;
   answers = after.answers;
   questions = after.questions;
+  about = asks after.answers found after.about;
   finished = record {
     decided_at = after.finished.decided_at;
     decision = subst (λ (row : Whole VerifiedDocuments). Transfer row after.asked_at after.finished.decided_at k l r) (is after.answers found) after.finished.decision;
     given = after.finished.given;
   };
 }
-after_as decide same k l (Err e) old new r is after = after
+after_as Asks Same decide same k l (Err e) old new r is asks after = after
 
-course_as : (collect other : Whole TrustedLayers) (decide same : Answers → TrustedLayers → Whole VerifiedDocuments) (k l : Kept) (old new : Wire) (r : Result VerifiedDocuments PullRefusal) → collect ≡ other → ((answers : Answers) (layers : TrustedLayers) → decide answers layers ≡ same answers layers)
-    → CourseBy NothingTold collect decide k l old new r → CourseBy NothingTold other same k l old new r
-course_as collect other decide same k l old new r searches decides course = record {
+course_as : (Asks Same : Asking) (collect other : Whole TrustedLayers) (decide same : Answers → TrustedLayers → Whole VerifiedDocuments) (k l : Kept) (old new : Wire) (r : Result VerifiedDocuments PullRefusal) → collect ≡ other → ((answers : Answers) (layers : TrustedLayers) → decide answers layers ≡ same answers layers) → ((answers : Answers) (layers : TrustedLayers) → Asks answers layers → Same answers layers)
+    → CourseBy NothingTold Asks collect decide k l old new r → CourseBy NothingTold Same other same k l old new r
+course_as Asks Same collect other decide same k l old new r searches decides asks course = record {
   searched_at = course.searched_at;
   kept = course.kept;
   found = course.found;
   search = subst (λ (row : Whole TrustedLayers). Transfer row old course.searched_at k course.kept course.found) searches course.search;
-  after = after_as decide same course.kept l course.found course.searched_at new r decides course.after;
+  after = after_as Asks Same decide same course.kept l course.found course.searched_at new r decides asks course.after;
 }
 
 -- a course by these terms
 decided_by : {V : Type 0} {H : V → Type 0} (own : CustomVerdict V H) (settings : LiveSettings) (terms : Terms V H) (logs : FinMap by_bytes (List ℕ)) (s : Settings) (k l : Kept) (old new : Wire) (r : Result VerifiedDocuments PullRefusal) → ByTerms settings terms logs s → IsKept r
-    → CourseBy NothingTold (collect_for own terms logs s) (decide_for own terms logs s) k l old new r → DecidedFrom settings k l r old new
+    → CourseBy NothingTold (asks_for terms logs) (collect_for own terms logs s) (decide_for own terms logs s) k l old new r → DecidedFrom settings k l r old new
 decided_by own settings terms logs s k l old new r by kept course =
-    let here = course_as (collect_for own terms logs s) (collect_row settings (reference_in terms.image)) (decide_for own terms logs s) (decide_row settings (reference_in terms.image)) k l old new r
-    (collect_is own settings terms logs s by) (λ answers found. decide_is own settings terms logs s answers found by) course in
+    let here = course_as (asks_for terms logs) (asks_of settings) (collect_for own terms logs s) (collect_row settings (reference_in terms.image)) (decide_for own terms logs s) (decide_row settings (reference_in terms.image)) k l old new r
+    (collect_is own settings terms logs s by) (λ answers found. decide_is own settings terms logs s answers found by) (λ answers found about. rw (by.terms_are.keys, by.logs_are) at about) course in
     record {
       image = reference_in terms.image;
       reads = by.terms_are.image;
@@ -167,7 +168,7 @@ decided_by own settings terms logs s k l old new r by kept course =
 
 -- what was decided, by the settings
 pub client_decides : {V : Type 0} {H : V → Type 0} (own : CustomVerdict V H) (settings : LiveSettings) (terms : Terms V H) (logs : FinMap by_bytes (List ℕ)) (s : Settings) (k l : Kept) (old new : Wire) (o : Result (Result VerifiedDocuments PullRefusal) Status) → ByTerms settings terms logs s
-    → Decides (CourseBy NothingTold (collect_for own terms logs s) (decide_for own terms logs s) k l old new) o new → Decides (λ r. DecidedFrom settings k l r old new) o new
+    → Decides (CourseBy NothingTold (asks_for terms logs) (collect_for own terms logs s) (decide_for own terms logs s) k l old new) o new → Decides (λ r. DecidedFrom settings k l r old new) o new
 client_decides own settings terms logs s k l old new (Ok (Ok d)) by h = decided_by own settings terms logs s k l old new (Ok d) by tt h
 client_decides own settings terms logs s k l old new (Ok (Err e)) by h = λ kept. decided_by own settings terms logs s k l old new (Err e) by kept (h kept)
 client_decides own settings terms logs s k l old new (Err e) by h = h
@@ -181,7 +182,7 @@ prepared_by settings p (reads, auth, accepted, moment, keys, constraints, client
 }
 
 pub live_decides : {V : Type 0} {H : V → Type 0} (own : CustomVerdict V H) (settings : LiveSettings) (p : Prepared V H) (l : Kept) (old new : Wire) (o : Result (Result VerifiedDocuments PullRefusal) Status) → Prepares settings p
-    → Decides (CourseBy NothingTold (collect_for own p.terms p.client.rekor_pub_keys (client_state p.client).settings) (decide_for own p.terms p.client.rekor_pub_keys (client_state p.client).settings) (client_state p.client).kept l old new) o new
+    → Decides (CourseBy NothingTold (asks_for p.terms p.client.rekor_pub_keys) (collect_for own p.terms p.client.rekor_pub_keys (client_state p.client).settings) (decide_for own p.terms p.client.rekor_pub_keys (client_state p.client).settings) (client_state p.client).kept l old new) o new
     → Decides (λ r. DecidedDocuments settings r old new) o new
 live_decides own settings p l old new o prepares h =
     let made = ap (λ (c : State). c.kept) prepares.6 in
@@ -191,32 +192,33 @@ live_decides own settings p l old new o prepares h =
 
 -- ---- what is sent afterwards
 
-after_given : (Gives : Giving) (decide : Answers → TrustedLayers → Whole VerifiedDocuments) (k l : Kept) (found : Result TrustedLayers PullRefusal) (old at new : Wire) (r : Result VerifiedDocuments PullRefusal) → Gives r at new → AfterSearchBy NothingTold decide k l found old at r → AfterSearchBy Gives decide k l found old new r
-after_given Gives decide k l (Ok found) old at new r given after = record {
+after_given : (Gives : Giving) (Asks : Asking) (decide : Answers → TrustedLayers → Whole VerifiedDocuments) (k l : Kept) (found : Result TrustedLayers PullRefusal) (old at new : Wire) (r : Result VerifiedDocuments PullRefusal) → Gives r at new → AfterSearchBy NothingTold Asks decide k l found old at r → AfterSearchBy Gives Asks decide k l found old new r
+after_given Gives Asks decide k l (Ok found) old at new r given after = record {
   asked_at = after.asked_at;
   answers = after.answers;
   questions = after.questions;
+  about = after.about;
   finished = record {
     decided_at = after.finished.decided_at;
     decision = after.finished.decision;
     given = subst (λ (w : Wire). Gives r w new) (sym after.finished.given) given;
   };
 }
-after_given Gives decide k l (Err e) old at new r given after = (after.0, after.1, subst (λ (w : Wire). Gives (Err e) w new) (sym after.2) (subst (λ (x : Result VerifiedDocuments PullRefusal). Gives x at new) after.0 given))
+after_given Gives Asks decide k l (Err e) old at new r given after = (after.0, after.1, subst (λ (w : Wire). Gives (Err e) w new) (sym after.2) (subst (λ (x : Result VerifiedDocuments PullRefusal). Gives x at new) after.0 given))
 
-course_given : (Gives : Giving) (collect : Whole TrustedLayers) (decide : Answers → TrustedLayers → Whole VerifiedDocuments) (k l : Kept) (old at new : Wire) (r : Result VerifiedDocuments PullRefusal) → Gives r at new → CourseBy NothingTold collect decide k l old at r → CourseBy Gives collect decide k l old new r
-course_given Gives collect decide k l old at new r given course = record {
+course_given : (Gives : Giving) (Asks : Asking) (collect : Whole TrustedLayers) (decide : Answers → TrustedLayers → Whole VerifiedDocuments) (k l : Kept) (old at new : Wire) (r : Result VerifiedDocuments PullRefusal) → Gives r at new → CourseBy NothingTold Asks collect decide k l old at r → CourseBy Gives Asks collect decide k l old new r
+course_given Gives Asks collect decide k l old at new r given course = record {
   searched_at = course.searched_at;
   kept = course.kept;
   found = course.found;
   search = course.search;
-  after = after_given Gives decide course.kept l course.found course.searched_at at new r given course.after;
+  after = after_given Gives Asks decide course.kept l course.found course.searched_at at new r given course.after;
 }
 
-justified_given : (settings : LiveSettings) (image : Reference) (k l : Kept) (old at new : Wire) (r : Result VerifiedDocuments PullRefusal) (given : DocumentsTold r at new) (course : CourseBy NothingTold (collect_row settings image) (decide_row settings image) k l old at r) → JustifiedBy NothingTold settings image k l old at r course → JustifiedBy DocumentsTold settings image k l old new r (course_given DocumentsTold (collect_row settings image) (decide_row settings image) k l old at new r given course)
+justified_given : (settings : LiveSettings) (image : Reference) (k l : Kept) (old at new : Wire) (r : Result VerifiedDocuments PullRefusal) (given : DocumentsTold r at new) (course : CourseBy NothingTold (asks_of settings) (collect_row settings image) (decide_row settings image) k l old at r) → JustifiedBy NothingTold settings image k l old at r course → JustifiedBy DocumentsTold settings image k l old new r (course_given DocumentsTold (asks_of settings) (collect_row settings image) (decide_row settings image) k l old at new r given course)
 unfolding after_given course_given
 justified_given settings image k l old at new r given course h = record { search = h.search; confined = h.confined; after = by_found course.kept course.found course.searched_at course.after h.after } where
-  by_found : (kept : Kept) (found : Result TrustedLayers PullRefusal) (searched : Wire) (after : AfterSearchBy NothingTold (decide_row settings image) kept l found searched at r) → AfterJustified NothingTold settings image kept l found searched at r after → AfterJustified DocumentsTold settings image kept l found searched new r (after_given DocumentsTold (decide_row settings image) kept l found searched at new r given after)
+  by_found : (kept : Kept) (found : Result TrustedLayers PullRefusal) (searched : Wire) (after : AfterSearchBy NothingTold (asks_of settings) (decide_row settings image) kept l found searched at r) → AfterJustified NothingTold settings image kept l found searched at r after → AfterJustified DocumentsTold settings image kept l found searched new r (after_given DocumentsTold (asks_of settings) (decide_row settings image) kept l found searched at new r given after)
   by_found kept (Ok found) searched after h = h
   by_found kept (Err e) searched after h = tt
 
@@ -225,7 +227,7 @@ sent settings old at new r given h = record {
   image = h.decided.image;
   reads = h.decided.reads;
   left = h.left;
-  course = course_given DocumentsTold (collect_row settings h.decided.image) (decide_row settings h.decided.image) (fresh true) h.left old at new r given h.decided.course;
+  course = course_given DocumentsTold (asks_of settings) (collect_row settings h.decided.image) (decide_row settings h.decided.image) (fresh true) h.left old at new r given h.decided.course;
   justified = justified_given settings h.decided.image (fresh true) h.left old at new r given h.decided.course h.decided.justified;
 }
 

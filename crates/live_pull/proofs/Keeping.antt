@@ -18,13 +18,13 @@ use Rattle.live_pull.specs.Course.{AfterSearchBy, NothingTold}
 use Rattle.live_pull.specs.Decided.{DecidedFrom}
 use Rattle.live_pull.specs.DocumentsJustified.{AfterJustified}
 use Rattle.live_pull.specs.Keeping.{IsWithin, StoresOnly}
-use Rattle.live_pull.specs.Rows.{decide_row, everyone_of}
+use Rattle.live_pull.specs.Rows.{asks_of, decide_row, everyone_of}
 use Rattle.live_pull.proofs.Grows.{collected_grows, decided_grows}
 
 module _ (settings : LiveSettings) where
   -- ---- bounds
 
-  after_within : (bounds : Bounds) (image : Reference) (k l : Kept) (found : Result TrustedLayers PullRefusal) (old new : Wire) (r : Result VerifiedDocuments PullRefusal) → AfterSearchBy NothingTold (decide_row settings image) k l found old new r → IsWithin bounds k.1 → IsWithin bounds l.1
+  after_within : (bounds : Bounds) (image : Reference) (k l : Kept) (found : Result TrustedLayers PullRefusal) (old new : Wire) (r : Result VerifiedDocuments PullRefusal) → AfterSearchBy NothingTold (asks_of settings) (decide_row settings image) k l found old new r → IsWithin bounds k.1 → IsWithin bounds l.1
   after_within bounds image k l (Ok found) old new r after is =
       let decision = after.finished.decision in
       ((decided_grows (client_settings settings) settings.moment (meaning_of settings after.answers) image settings.auth found).bounds bounds).stays k l 0 decision.faults decision.conversation r decision.runs is
@@ -47,7 +47,7 @@ module _ (settings : LiveSettings) where
   confined_stores image k l old new confined only = λ registry stored here.
       by_stored settings.auth stored (map.get k.0.credentials registry ≡ Some stored) (registry ≡ resolved_registry image) (only registry stored) (confined.2.stored registry stored here)
 
-  after_stores : (image : Reference) (k l : Kept) (found : Result TrustedLayers PullRefusal) (old new : Wire) (r : Result VerifiedDocuments PullRefusal) (after : AfterSearchBy NothingTold (decide_row settings image) k l found old new r)
+  after_stores : (image : Reference) (k l : Kept) (found : Result TrustedLayers PullRefusal) (old new : Wire) (r : Result VerifiedDocuments PullRefusal) (after : AfterSearchBy NothingTold (asks_of settings) (decide_row settings image) k l found old new r)
       → AfterJustified NothingTold settings image k l found old new r after → StoresOnly settings.auth k.0 → StoresOnly settings.auth l.0
   after_stores image k l (Ok found) old new r after justified only = confined_stores image k l after.asked_at after.finished.decided_at justified.1 only
   after_stores image k l (Err e) old new r after justified only = subst (λ (k : Kept). StoresOnly settings.auth k.0) (sym after.1) only

@@ -15,7 +15,7 @@ use Rattle.live_host.specs.Wire.{Wire}
 use Rattle.live_pull.specs.Pulls.{client_settings, meaning_of}
 use Rattle.live_pull.specs.declared.settings.LiveSettings.{LiveSettings}
 use Rattle.live_pull.specs.Course.{AfterSearchBy, CourseBy, NothingTold, exchanges_after, exchanges_of}
-use Rattle.live_pull.specs.Rows.{collect_row, decide_row, everyone_of}
+use Rattle.live_pull.specs.Rows.{asks_of, collect_row, decide_row, everyone_of}
 use Rattle.live_pull.proofs.Grows.{collected_grows, decided_grows}
 
 -- what is made in a part is made in the whole
@@ -46,17 +46,17 @@ both_logged s now first second k l log one two = record {
 }
 
 module _ (settings : LiveSettings) (image : Reference) where
-  after_logged : (k l : Kept) (found : Result TrustedLayers PullRefusal) (old new : Wire) (r : Result VerifiedDocuments PullRefusal) (after : AfterSearchBy NothingTold (decide_row settings image) k l found old new r) (log : List LoggedCall) → IsRun (client_settings settings) log → IsBacked (client_settings settings) k.1 log
-      → ExtendsLog (client_settings settings) settings.moment (exchanges_after NothingTold (decide_row settings image) k l found old new r after) l.1 log
+  after_logged : (k l : Kept) (found : Result TrustedLayers PullRefusal) (old new : Wire) (r : Result VerifiedDocuments PullRefusal) (after : AfterSearchBy NothingTold (asks_of settings) (decide_row settings image) k l found old new r) (log : List LoggedCall) → IsRun (client_settings settings) log → IsBacked (client_settings settings) k.1 log
+      → ExtendsLog (client_settings settings) settings.moment (exchanges_after NothingTold (asks_of settings) (decide_row settings image) k l found old new r after) l.1 log
   after_logged k l (Ok found) old new r after log run backed =
       let decision = after.finished.decision in
       (decided_grows (client_settings settings) settings.moment (meaning_of settings after.answers) image settings.auth found).log.grows k l 0 decision.faults decision.conversation r log decision.runs run backed
   after_logged k l (Err e) old new r after log run backed = as_it_was (client_settings settings) settings.moment [] k l log (sym (ap (λ (k : Kept). k.1) after.1)) run backed
 
-  pub course_logged : (k l : Kept) (old new : Wire) (r : Result VerifiedDocuments PullRefusal) (course : CourseBy NothingTold (collect_row settings image) (decide_row settings image) k l old new r) (log : List LoggedCall) → IsRun (client_settings settings) log → IsBacked (client_settings settings) k.1 log
+  pub course_logged : (k l : Kept) (old new : Wire) (r : Result VerifiedDocuments PullRefusal) (course : CourseBy NothingTold (asks_of settings) (collect_row settings image) (decide_row settings image) k l old new r) (log : List LoggedCall) → IsRun (client_settings settings) log → IsBacked (client_settings settings) k.1 log
       → ExtendsLog (client_settings settings) settings.moment (exchanges_of course) l.1 log
   course_logged k l old new r course log run backed =
       let search = course.search in
       let one = (collected_grows (client_settings settings) settings.moment (everyone_of settings) image settings.auth).log.grows k course.kept 0 search.faults search.conversation course.found log search.runs run backed in
       let two = after_logged course.kept l course.found course.searched_at new r course.after (one.more ++ log) one.run one.backed in
-      both_logged (client_settings settings) settings.moment search.conversation (exchanges_after NothingTold (decide_row settings image) course.kept l course.found course.searched_at new r course.after) course.kept l log one two
+      both_logged (client_settings settings) settings.moment search.conversation (exchanges_after NothingTold (asks_of settings) (decide_row settings image) course.kept l course.found course.searched_at new r course.after) course.kept l log one two

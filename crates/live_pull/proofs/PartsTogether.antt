@@ -31,6 +31,7 @@ use Rattle.live_pull.specs.Live.{Ends, Live}
 use Rattle.live_pull.specs.Parts.{Delivers, Finished, Prepares, Showing, SearchAskPull, searched_by}
 use Rattle.live_pull.specs.Pulls.{Collects, Transfer, context_of, meaning_of, pull_row, search_row, trust_of}
 use Rattle.live_pull.specs.Justified.{Confined, Justified}
+use Rattle.live_pull.specs.Rows.{layers_asked}
 use Rattle.live_pull.specs.Terms.{PulledBy, PullShows, TermsConfined, row_for}
 use Rattle.live_pull.specs.declared.live.Prepared.{Prepared}
 use Rattle.live_pull.specs.declared.pulls.Terms.{Terms}
@@ -119,7 +120,7 @@ prepares_opened asked settings o constraints usual opens reads auth written = (
 
 -- all of it, by the settings
 pub live : {V : Type 0} {H : V → Type 0} (own : CustomVerdict V H) (settings : LiveSettings) (p : Prepared V H) (old new : Wire) (r : Result VerifiedImage PullRefusal) → Prepares settings p
-    → SearchAskPull (searched_by p.terms p.client.rekor_pub_keys (client_state p.client).settings) (TermsConfined p.terms (client_state p.client).settings)
+    → SearchAskPull (searched_by p.terms p.client.rekor_pub_keys (client_state p.client).settings) (TermsConfined p.terms (client_state p.client).settings) (layers_asked p.terms p.client.rekor_pub_keys)
     (λ answers. row_for own p.terms answers p.client.rekor_pub_keys (client_state p.client).settings)
     (λ answers. PullShows own p.terms answers p.client.rekor_pub_keys (client_state p.client).settings)
     settings.blobs (client_state p.client).kept old new r
@@ -140,6 +141,7 @@ live own settings p old new r prepares talked =
       asked = talked.asked_at;
       answers = talked.answers;
       questions = talked.questions;
+      about = rw (prepares.4, prepares.7) at talked.about;
       pulled = talked.finished.0;
       left = talked.finished.1;
       pull = subst (λ (row : Whole VerifiedImage). Transfer row talked.asked_at talked.finished.0 talked.kept talked.finished.1 r) (row_is own settings p talked.answers prepares) talked.finished.2;
@@ -151,11 +153,11 @@ live own settings p old new r prepares talked =
 -- a search, questions, and a pull whose client knows the same logs and has the same settings as before
 pub talked : {V : Type 0} {H : V → Type 0} (own : CustomVerdict V H) (terms : Terms V H) (search : Row TrustedLayers) (Stays : Kept → Kept → Wire → Wire → Type 0) (blobs : Bool) (k kept : Kept) (old searched_at asked new : Wire) (layers : List SignatureLayer) (answers : Answers)
     (logs same_logs : FinMap by_bytes (List ℕ)) (s same : Settings) (e : Status)
-    → Collects search old searched_at k kept layers → Stays k kept old searched_at → WereAsked answers.list searched_at asked → same_logs ≡ logs → same ≡ s
+    → Collects search old searched_at k kept layers → Stays k kept old searched_at → WereAsked answers.list searched_at asked → layers_asked terms same_logs answers layers → same_logs ≡ logs → same ≡ s
     → Ends (Finished (row_for own terms answers same_logs same) (PullShows own terms answers same_logs same) blobs kept asked new) e new
-    → Ends (SearchAskPull search Stays (λ a. row_for own terms a logs s) (λ a. PullShows own terms a logs s) blobs k old new) e new
-talked own terms search Stays blobs k kept old searched_at asked new layers answers logs same_logs s same e collects stays questions is_logs is_settings ends =
-    ends_as {Q = SearchAskPull search Stays (λ a. row_for own terms a logs s) (λ a. PullShows own terms a logs s) blobs k old new} e new (λ r h. record {
+    → Ends (SearchAskPull search Stays (layers_asked terms logs) (λ a. row_for own terms a logs s) (λ a. PullShows own terms a logs s) blobs k old new) e new
+talked own terms search Stays blobs k kept old searched_at asked new layers answers logs same_logs s same e collects stays questions about is_logs is_settings ends =
+    ends_as {Q = SearchAskPull search Stays (layers_asked terms logs) (λ a. row_for own terms a logs s) (λ a. PullShows own terms a logs s) blobs k old new} e new (λ r h. record {
       searched_at = searched_at;
       kept = kept;
       layers = layers;
@@ -164,6 +166,7 @@ talked own terms search Stays blobs k kept old searched_at asked new layers answ
       asked_at = asked;
       answers = answers;
       questions = questions;
+      about = subst (λ (l : FinMap by_bytes (List ℕ)). layers_asked terms l answers layers) is_logs about;
       finished = subst (λ (l : FinMap by_bytes (List ℕ)). Finished (row_for own terms answers l s) (PullShows own terms answers l s) blobs kept asked new r) is_logs
           (subst (λ (x : Settings). Finished (row_for own terms answers same_logs x) (PullShows own terms answers same_logs x) blobs kept asked new r) is_settings h);
     }) ends
@@ -176,11 +179,11 @@ finished_for own terms answers logs s blobs k l old pulled new r e pull shows gi
 
 -- how all of it ends, by the settings
 pub live_ends : {V : Type 0} {H : V → Type 0} (own : CustomVerdict V H) (settings : LiveSettings) (p : Prepared V H) (old new : Wire) (e : Status) → Prepares settings p
-    → Ends (SearchAskPull (searched_by p.terms p.client.rekor_pub_keys (client_state p.client).settings) (TermsConfined p.terms (client_state p.client).settings)
+    → Ends (SearchAskPull (searched_by p.terms p.client.rekor_pub_keys (client_state p.client).settings) (TermsConfined p.terms (client_state p.client).settings) (layers_asked p.terms p.client.rekor_pub_keys)
     (λ answers. row_for own p.terms answers p.client.rekor_pub_keys (client_state p.client).settings)
     (λ answers. PullShows own p.terms answers p.client.rekor_pub_keys (client_state p.client).settings)
     settings.blobs (client_state p.client).kept old new) e new
     → Ends (λ r. Live settings r old new) e new
 live_ends own settings p old new e prepares h =
-    ends_as {P = SearchAskPull (searched_by p.terms p.client.rekor_pub_keys (client_state p.client).settings) (TermsConfined p.terms (client_state p.client).settings) (λ answers. row_for own p.terms answers p.client.rekor_pub_keys (client_state p.client).settings) (λ answers. PullShows own p.terms answers p.client.rekor_pub_keys (client_state p.client).settings) settings.blobs (client_state p.client).kept old new}
+    ends_as {P = SearchAskPull (searched_by p.terms p.client.rekor_pub_keys (client_state p.client).settings) (TermsConfined p.terms (client_state p.client).settings) (layers_asked p.terms p.client.rekor_pub_keys) (λ answers. row_for own p.terms answers p.client.rekor_pub_keys (client_state p.client).settings) (λ answers. PullShows own p.terms answers p.client.rekor_pub_keys (client_state p.client).settings) settings.blobs (client_state p.client).kept old new}
     {Q = λ r. Live settings r old new} e new (λ r t. live own settings p old new r prepares t) h

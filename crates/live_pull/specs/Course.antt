@@ -26,6 +26,10 @@ Giving = Result VerifiedDocuments PullRefusal → Wire → Wire → Type 0
 abbrev pub NothingTold : Giving
 NothingTold r old new = old ≡ new
 
+-- what the host was asked about layers that were found
+abbrev pub Asking : Type 1
+Asking = Answers → TrustedLayers → Type 0
+
 -- the decision, and what was sent for it
 pub record FinishedBy (Gives : Giving) (decide : Whole VerifiedDocuments) (k l : Kept) (old new : Wire)
     (r : Result VerifiedDocuments PullRefusal) : Type 0 where
@@ -34,45 +38,46 @@ pub record FinishedBy (Gives : Giving) (decide : Whole VerifiedDocuments) (k l :
   pub given : Gives r decided_at new
 
 -- the host was asked about the layers found, and its answers decided
-pub record AskedAndDecidedBy (Gives : Giving) (decide : Answers → TrustedLayers → Whole VerifiedDocuments)
+pub record AskedAndDecidedBy (Gives : Giving) (Asks : Asking) (decide : Answers → TrustedLayers → Whole VerifiedDocuments)
     (k l : Kept) (found : TrustedLayers) (old new : Wire) (r : Result VerifiedDocuments PullRefusal) : Type 0 where
   pub asked_at : Wire
   pub answers : Answers
   pub questions : WereAsked answers.list old asked_at
+  pub about : Asks answers found
   pub finished : FinishedBy Gives (decide answers found) k l asked_at new r
 
 -- what follows the search: its error was sent; or the host was asked, and the documents were decided on
-abbrev pub AfterSearchBy : Giving → (Answers → TrustedLayers → Whole VerifiedDocuments) → Kept → Kept
+abbrev pub AfterSearchBy : Giving → Asking → (Answers → TrustedLayers → Whole VerifiedDocuments) → Kept → Kept
     → Result TrustedLayers PullRefusal → Wire → Wire → Result VerifiedDocuments PullRefusal → Type 0
-AfterSearchBy Gives decide k l (Ok found) old new r = AskedAndDecidedBy Gives decide k l found old new r
-AfterSearchBy Gives decide k l (Err e) old new r = (r ≡ Err e) × (l ≡ k) × Gives (Err e) old new
+AfterSearchBy Gives Asks decide k l (Ok found) old new r = AskedAndDecidedBy Gives Asks decide k l found old new r
+AfterSearchBy Gives Asks decide k l (Err e) old new r = (r ≡ Err e) × (l ≡ k) × Gives (Err e) old new
 
 -- a search, and what follows it, by a client that kept `k` before and `l` afterwards
-pub record CourseBy (Gives : Giving) (collect : Whole TrustedLayers)
+pub record CourseBy (Gives : Giving) (Asks : Asking) (collect : Whole TrustedLayers)
     (decide : Answers → TrustedLayers → Whole VerifiedDocuments) (k l : Kept) (old new : Wire)
     (r : Result VerifiedDocuments PullRefusal) : Type 0 where
   pub searched_at : Wire
   pub kept : Kept
   pub found : Result TrustedLayers PullRefusal
   pub search : Transfer collect old searched_at k kept found
-  pub after : AfterSearchBy Gives decide kept l found searched_at new r
+  pub after : AfterSearchBy Gives Asks decide kept l found searched_at new r
 
 -- the same, with documents or a refusal sent at its end
-abbrev pub Course : Whole TrustedLayers → (Answers → TrustedLayers → Whole VerifiedDocuments) → Kept → Kept → Wire
+abbrev pub Course : Asking → Whole TrustedLayers → (Answers → TrustedLayers → Whole VerifiedDocuments) → Kept → Kept → Wire
     → Wire → Result VerifiedDocuments PullRefusal → Type 0
 Course = CourseBy DocumentsTold
 
 -- the exchanges of the decision, if there was one
-abbrev pub exchanges_after : (Gives : Giving) (decide : Answers → TrustedLayers → Whole VerifiedDocuments) (k l : Kept)
+abbrev pub exchanges_after : (Gives : Giving) (Asks : Asking) (decide : Answers → TrustedLayers → Whole VerifiedDocuments) (k l : Kept)
     (found : Result TrustedLayers PullRefusal) (old new : Wire) (r : Result VerifiedDocuments PullRefusal)
-    → AfterSearchBy Gives decide k l found old new r → List Exchange
-exchanges_after Gives decide k l (Ok found) old new r after = after.finished.decision.conversation
-exchanges_after Gives decide k l (Err e) old new r after = []
+    → AfterSearchBy Gives Asks decide k l found old new r → List Exchange
+exchanges_after Gives Asks decide k l (Ok found) old new r after = after.finished.decision.conversation
+exchanges_after Gives Asks decide k l (Err e) old new r after = []
 
 -- the exchanges of the search and of the decision
-abbrev pub exchanges_of : {Gives : Giving} {collect : Whole TrustedLayers}
+abbrev pub exchanges_of : {Gives : Giving} {Asks : Asking} {collect : Whole TrustedLayers}
     {decide : Answers → TrustedLayers → Whole VerifiedDocuments} {k l : Kept} {old new : Wire}
-    {r : Result VerifiedDocuments PullRefusal} → CourseBy Gives collect decide k l old new r → List Exchange
-exchanges_of {Gives} {collect} {decide} {k} {l} {old} {new} {r} course =
-    course.search.conversation ++ exchanges_after Gives decide course.kept l course.found course.searched_at new r
+    {r : Result VerifiedDocuments PullRefusal} → CourseBy Gives Asks collect decide k l old new r → List Exchange
+exchanges_of {Gives} {Asks} {collect} {decide} {k} {l} {old} {new} {r} course =
+    course.search.conversation ++ exchanges_after Gives Asks decide course.kept l course.found course.searched_at new r
     course.after

@@ -17,7 +17,7 @@ use Rattle.live_pull.specs.declared.status.Status.{Status}
 use Rattle.live_pull.specs.declared.status.Status.TheVariants as status
 use Rattle.live_pull.specs.Course.{CourseBy, NothingTold}
 use Rattle.live_pull.specs.DocumentsJustified.{JustifiedBy}
-use Rattle.live_pull.specs.Rows.{collect_row, decide_row}
+use Rattle.live_pull.specs.Rows.{asks_of, collect_row, decide_row}
 
 -- The same as `LiveDocuments`, but the result was not sent, and the client kept `k` before and `l` afterwards: what the
 -- search requests may be cached in `k`; the documents are always requested.
@@ -25,7 +25,7 @@ pub record DecidedFrom (settings : LiveSettings) (k l : Kept) (r : Result Verifi
     (old new : Wire) : Type 0 where
   pub image : Reference
   pub reads : reference_of settings.reference ≡ Ok image
-  pub course : CourseBy NothingTold (collect_row settings image) (decide_row settings image) k l old new r
+  pub course : CourseBy NothingTold (asks_of settings) (collect_row settings image) (decide_row settings image) k l old new r
   pub justified : JustifiedBy NothingTold settings image k l old new r course
 
 -- the same by a new client

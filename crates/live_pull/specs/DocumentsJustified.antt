@@ -18,7 +18,7 @@ use Rattle.live_pull.specs.Justified.{Confined, Shown}
 use Rattle.live_pull.specs.Pulls.{context_of, meaning_of}
 use Rattle.live_pull.specs.declared.settings.LiveSettings.{LiveSettings}
 use Rattle.live_pull.specs.Course.{AfterSearchBy, Course, CourseBy, DocumentsTold, Giving}
-use Rattle.live_pull.specs.Rows.{collect_row, decide_row, everyone_of}
+use Rattle.live_pull.specs.Rows.{asks_of, collect_row, decide_row, everyone_of}
 
 -- the digest that was found was returned for the image in the conversation; an error has its cause there
 abbrev pub FoundJustified : {V : Type 0} {H : V → Type 0} → PolicyContext V H → Context → Reference → RegistryAuth
@@ -40,7 +40,7 @@ DecisionJustified policy_context s image a found k l (Err e) old new =
 -- what follows the search is justified, and confined
 abbrev pub AfterJustified : (Gives : Giving) (settings : LiveSettings) (image : Reference) (k l : Kept)
     (found : Result TrustedLayers PullRefusal) (old new : Wire) (r : Result VerifiedDocuments PullRefusal)
-    → AfterSearchBy Gives (decide_row settings image) k l found old new r → Type 0
+    → AfterSearchBy Gives (asks_of settings) (decide_row settings image) k l found old new r → Type 0
 AfterJustified Gives settings image k l (Ok found) old new r after =
     DecisionJustified (meaning_of settings after.answers) (context_of settings) image settings.auth found k l r
     after.asked_at after.finished.decided_at
@@ -50,7 +50,7 @@ AfterJustified Gives settings image k l (Err e) old new r after = Unit {0}
 -- both parts are justified, and confined
 pub record JustifiedBy (Gives : Giving) (settings : LiveSettings) (image : Reference) (k l : Kept) (old new : Wire)
     (r : Result VerifiedDocuments PullRefusal)
-    (course : CourseBy Gives (collect_row settings image) (decide_row settings image) k l old new r) : Type 0 where
+    (course : CourseBy Gives (asks_of settings) (collect_row settings image) (decide_row settings image) k l old new r) : Type 0 where
   pub search : FoundJustified (everyone_of settings) (context_of settings) image settings.auth k course.kept
       course.found old course.searched_at
   pub confined : Confined (context_of settings) image settings.auth k course.kept old course.searched_at
@@ -59,5 +59,5 @@ pub record JustifiedBy (Gives : Giving) (settings : LiveSettings) (image : Refer
 -- the same, with documents or a refusal sent at its end
 abbrev pub Justified : (settings : LiveSettings) (image : Reference) (k l : Kept) (old new : Wire)
     (r : Result VerifiedDocuments PullRefusal)
-    → Course (collect_row settings image) (decide_row settings image) k l old new r → Type 0
+    → Course (asks_of settings) (collect_row settings image) (decide_row settings image) k l old new r → Type 0
 Justified = JustifiedBy DocumentsTold

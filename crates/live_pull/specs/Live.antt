@@ -1,5 +1,5 @@
 -- A live pull: the settings, the search, the host's answers, the pull, and what is sent.
-use Rattle.std.specs.Prelude.{◌≡◌, true, false, List, [], Option, None, Result, Ok, Err}
+use Rattle.std.specs.Prelude.{◌≡◌, true, false, List, [], All, Option, None, Result, Ok, Err}
 use Rattle.serde_json.specs.Data.{Data}
 use Rattle.oci_names.specs.Reference.{reference_of}
 use Rattle.oci_names.specs.declared.reference.Reference.{Reference}
@@ -10,7 +10,7 @@ use Rattle.cosign_rows.specs.Refusal.{is_memory}
 use Rattle.cosign_rows.specs.declared.refusal.PullRefusal.{PullRefusal}
 use Rattle.live_host.specs.HostErrors.{IsBroken, IsUnwritten}
 use Rattle.live_host.specs.Heads.{begin_head}
-use Rattle.live_host.specs.Questions.{WereAsked}
+use Rattle.live_host.specs.Questions.{LayerAsked, WereAsked}
 use Rattle.live_host.specs.Wire.{Wire, SendsAndReceives, SendsFrame, ReceivesFrame}
 use Rattle.live_host.specs.declared.answers.Answers.{Answers}
 use Rattle.cosign_client.specs.Clients.{fresh}
@@ -36,6 +36,7 @@ pub record Live (settings : LiveSettings) (r : Result VerifiedImage PullRefusal)
   pub asked : Wire
   pub answers : Answers
   pub questions : WereAsked answers.list searched asked
+  pub about : All (LayerAsked answers.list settings.keys settings.log_keys) layers
   pub pulled : Wire
   pub left : Kept
   pub pull : Transfer (pull_row settings answers image) asked pulled kept left r

@@ -10,7 +10,7 @@ use Rattle.live_host.specs.Wire.{Wire}
 use Rattle.live_pull.specs.declared.settings.LiveSettings.{LiveSettings}
 use Rattle.live_pull.specs.Course.{Course}
 use Rattle.live_pull.specs.DocumentsJustified.{Justified}
-use Rattle.live_pull.specs.Rows.{collect_row, decide_row}
+use Rattle.live_pull.specs.Rows.{asks_of, collect_row, decide_row}
 
 -- What was done by these settings, from one state of the streams to another: layers were searched once, by a new client;
 -- the host was asked about them; the documents were decided on under its answers; and the result was sent. Documents
@@ -20,5 +20,5 @@ pub record LiveDocuments (settings : LiveSettings) (r : Result VerifiedDocuments
   pub image : Reference
   pub reads : reference_of settings.reference ≡ Ok image
   pub left : Kept
-  pub course : Course (collect_row settings image) (decide_row settings image) (fresh true) left old new r
+  pub course : Course (asks_of settings) (collect_row settings image) (decide_row settings image) (fresh true) left old new r
   pub justified : Justified settings image (fresh true) left old new r course

@@ -105,8 +105,8 @@ searched_by terms log_keys settings =
 
 -- a search, questions about what it found, and a pull under the answers
 pub record SearchAskPull (search : Row TrustedLayers) (Stays : Kept → Kept → Wire → Wire → Type 0)
-    (pull : Answers → Whole VerifiedImage) (shows : Answers → Showing) (blobs : Bool) (k : Kept) (old new : Wire)
-    (r : Result VerifiedImage PullRefusal) : Type 0 where
+    (Asks : Answers → List SignatureLayer → Type 0) (pull : Answers → Whole VerifiedImage) (shows : Answers → Showing)
+    (blobs : Bool) (k : Kept) (old new : Wire) (r : Result VerifiedImage PullRefusal) : Type 0 where
   pub searched_at : Wire
   pub kept : Kept
   pub layers : List SignatureLayer
@@ -115,4 +115,5 @@ pub record SearchAskPull (search : Row TrustedLayers) (Stays : Kept → Kept →
   pub asked_at : Wire
   pub answers : Answers
   pub questions : WereAsked answers.list searched_at asked_at
+  pub about : Asks answers layers
   pub finished : Finished (pull answers) (shows answers) blobs kept asked_at new r

@@ -12,7 +12,7 @@ ghost use Rattle.live_pull.specs.Settings.{IsReady};
 ghost use Rattle.live_pull.specs.Course.{AskedAndDecidedBy, CourseBy, DocumentsTold, FinishedBy, NothingTold};
 ghost use Rattle.live_pull.specs.Decided.{DecidedDocuments, DecidedFrom, Decides, Suits};
 ghost use Rattle.live_pull.specs.LiveDocuments.{LiveDocuments};
-ghost use Rattle.live_pull.specs.Rows.{collect_for, decide_for};
+ghost use Rattle.live_pull.specs.Rows.{asks_for, collect_for, decide_for};
 ghost use Rattle.live_pull.specs.DocumentsTerms.{AreTerms};
 
 use crate::documents_delivery::deliver;
@@ -90,7 +90,7 @@ fn ask_and_decide<S: Source, K: Sink>(
     terms: &Terms,
     found: TrustedLayers,
 ) -> Decided<S, K>
-    ensures decided { Decides (AskedAndDecidedBy NothingTold
+    ensures decided { Decides (AskedAndDecidedBy NothingTold (asks_for terms.now client.old.rekor_pub_keys)
         (decide_for (λ b. accepts (b.vtable, b.value)) terms.now client.old.rekor_pub_keys
         (client_state client.old).settings)
         (client_state client.old).kept (client_state client.new).kept found
@@ -123,7 +123,7 @@ fn converse<S: Source, K: Sink>(
     client: &mut Client,
     terms: &Terms,
 ) -> Decided<S, K>
-    ensures decided { Decides (CourseBy NothingTold
+    ensures decided { Decides (CourseBy NothingTold (asks_for terms.now client.old.rekor_pub_keys)
         (collect_for (λ b. accepts (b.vtable, b.value)) terms.now client.old.rekor_pub_keys
         (client_state client.old).settings)
         (decide_for (λ b. accepts (b.vtable, b.value)) terms.now client.old.rekor_pub_keys

@@ -5,6 +5,7 @@ ghost use Rattle.live_host.specs.Wire.{wire};
 ghost use Rattle.live_pull.specs.Live.{Begins, Ends, StatusMeans, Live};
 ghost use Rattle.live_pull.specs.Parts.{Prepares, BeginCause, ReadsSettings, Delivers, Finished, SearchAskPull, searched_by};
 ghost use Rattle.live_pull.specs.Settings.{IsReady};
+ghost use Rattle.live_pull.specs.Rows.{layers_asked};
 ghost use Rattle.live_pull.specs.Terms.{row_for, PullShows, TermsConfined};
 
 use crate::opening::{Opened, open_settings};
@@ -156,6 +157,7 @@ fn converse<S: Source, K: Sink>(
     ensures { Ends (SearchAskPull
         (searched_by prepared.old.terms prepared.old.client.rekor_pub_keys (client_state prepared.old.client).settings)
         (TermsConfined prepared.old.terms (client_state prepared.old.client).settings)
+        (layers_asked prepared.old.terms prepared.old.client.rekor_pub_keys)
         (λ answers. row_for (λ b. accepts (b.vtable, b.value)) prepared.old.terms answers
         prepared.old.client.rekor_pub_keys (client_state prepared.old.client).settings)
         (λ answers. PullShows (λ b. accepts (b.vtable, b.value)) prepared.old.terms answers

@@ -4,4 +4,4 @@ use Rattle.live_pull.proofs.documents.ask_and_decide.Goals as goal
 
 pub returns-in-Ok-clause-decided : goal.returns-in-Ok-clause-decided
 returns-in-Ok-clause-decided g c =
-    asked_decides _ c.args.terms.now c.args.client.now.rekor_pub_keys (client_state c.args.client.now).settings c.in-Ok.answers c.args.found _ _ _ _ _ c.finish.result.outcome (rw c.in-Ok.is at c.ask_layers-asked.ensures.asked) c.finish.ensures.decided
+    asked_decides _ c.args.terms.now c.args.client.now.rekor_pub_keys (client_state c.args.client.now).settings c.in-Ok.answers c.args.found _ _ _ _ _ c.finish.result.outcome (rw c.in-Ok.is at c.ask_layers-asked.ensures.asked) (rw (c.in-Ok.is, c.as_slice.ensures, c.as_slice-2.ensures) at c.ask_layers-asked.ensures.about) c.finish.ensures.decided
