@@ -20,7 +20,8 @@ from host.rules import Rule
 from host.signatures import Signatures
 from host.terminal import printable, say
 
-VERSION, LONGEST, LINE, REVIEWS = "admission.k8s.io/v1", 1 << 20, 1 << 20, 1 << 32
+VERSION, LONGEST, LINE = "admission.k8s.io/v1", 1 << 20, 1 << 20
+REVIEWS = 1000  # of a core, which then ends with 0: what is proved of its responses is said of such an end
 LATE = "not decided in time; ask for fewer images, or raise --deadline and the webhook's timeoutSeconds"
 IMAGES = 100  # the most of a Pod, so that a few Pods cannot have all other reviews wait
 GRACE, IDLE = 1, 30  # seconds: for a core that is late, and for a connection without a whole head of a request
@@ -40,10 +41,10 @@ class Decider:
     """A core that decides one review after another, and its host: connections for each image, and signatures by the rule that the core names."""
 
     def __init__(self, admit: Frame, rules: dict[str, Rule], connect: Connect) -> None:
-        self.rules, self.connect, self.core = rules, connect, Core()
+        self.rules, self.connect, self.core, self.left = rules, connect, Core(), REVIEWS
         if self.core.read()["frame"] != "begin":
             raise ValueError("the core began badly")
-        self.core.write(admit | {"frame": "admit", "reviews": REVIEWS})
+        self.core.write(admit | {"frame": "admit", "reviews": self.left})
 
     def decide(self, line: bytes, end: float) -> Decided:
         """What the core replies to the review in a frame. ValueError or OSError if it broke, or if it allows an image of which the host found no signature valid in this review."""
@@ -64,6 +65,9 @@ class Decider:
                     core.write(signatures.reply(frame, body))
                 case name:
                     raise ValueError(f"the core wrote the frame {name}")
+        self.left -= 1
+        if not self.left:
+            core.ended(frame, 0)
         response = str(frame.get("response", ""))
         if response and json.loads(response)["response"]["allowed"]:
             if unsigned := set(images_of(json.loads(json.loads(line)["review"]))) - {image for image, signatures in asked if signatures.signers}:
@@ -72,7 +76,7 @@ class Decider:
 
 
 class Deciders:
-    """Deciders, one for each thread that decides; one that breaks is replaced."""
+    """Deciders, one for each thread that decides; one that breaks, or has served its reviews, is replaced."""
 
     def __init__(self, admit: Frame, rules: dict[str, Rule], connect: Connect) -> None:
         self.admit, self.rules, self.connect, self.own = admit, rules, connect, threading.local()
@@ -83,12 +87,15 @@ class Deciders:
         if not hasattr(self.own, "decider"):
             self.own.decider = Decider(self.admit, self.rules, self.connect)
         decider: Decider = self.own.decider
+        is_left = False
         try:
-            return decider.decide(line, end)
-        except Exception:  # whatever was not foreseen allows nothing
-            decider.core.close()
-            del self.own.decider
-            raise
+            decided = decider.decide(line, end)
+            is_left = decider.left > 0
+            return decided
+        finally:  # whatever was not foreseen allows nothing
+            if not is_left:
+                decider.core.close()
+                del self.own.decider
 
 
 def frame_of(text: str, mutate: bool, moment: int) -> bytes:

@@ -150,7 +150,7 @@ def admits_signed_images(live):
 
 
 def admits_many_pods_in_a_row(live):
-    """The cores hold no more after all than after the first hundred, but for a tenth."""
+    """A core, which is replaced after its 1000 reviews, holds no more after all than after the first hundred, but for a tenth."""
     images = [signed(live, f"row-{place}")[0] for place in range(4)]
     with webhook(live, "row", [rule_of(live, live.place)], "--jobs", "4") as server:
         began, done, lock, first = time.monotonic(), 0, threading.Lock(), {}
@@ -169,9 +169,10 @@ def admits_many_pods_in_a_row(live):
         with ThreadPoolExecutor(4) as pool:
             list(pool.map(send, range(4)))
         taken, last = time.monotonic() - began, server.cores()
-    assert first.keys() == last.keys() and len(last) == 4 and done >= 400, (first, last, done)
-    assert sum(last.values()) <= 1.1 * sum(first.values()), (first, last)
-    return f"{done} Pods in {taken:.0f} s; four cores held {sum(first.values()):.1f} MiB after 100 and {sum(last.values()):.1f} MiB at the end"
+    assert len(first) == 4 and 1 <= len(last) <= 4 and done >= 400, (first, last, done)
+    assert done < 10000 or not first.keys() & last.keys(), (first, last)
+    assert max(last.values()) <= 1.1 * max(first.values()), (first, last)
+    return f"{done} Pods in {taken:.0f} s; a core held at most {max(first.values()):.1f} MiB after 100 and {max(last.values()):.1f} MiB at the end"
 
 
 def admits_many_pods_at_once(live):

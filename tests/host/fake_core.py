@@ -4,7 +4,7 @@
 FAKE says how it misbehaves: `ends N` exits with a status after the settings, `garbage` writes what is not a frame, `frame JSON` writes this one,
 `blobs N`, `check N` and `carry N` exit so when they get such a frame, `refused TEXT` refuses with this report, `settings` with a report of the settings, `early` exits with the half of a
 document written. `last N FRAME` does what such a first frame asks for, and exits with N after the last frame (-9: is killed). `allow PART` allows each image of a review that
-has this part in its name, without a question.
+has this part in its name, without a question. `served N` exits with N after the reviews.
 """
 import base64
 import contextlib
@@ -431,7 +431,7 @@ def main():
         return 0
     if settings["frame"] == "admit":
         Reviews(settings["rules"]).run(settings["reviews"])
-        return 0
+        return int(rest) if word == "served" else 0
     return done(settings, word, rest)
 
 

@@ -16,7 +16,7 @@ from unittest import mock
 
 from support import MANIFEST, TOP, WithFolder, digest_of, openssl, registry
 
-from host.admission import LATE, Decider, denied, logged
+from host.admission import LATE, Decider, Deciders, denied, frame_of, logged
 
 
 HEAD = b"POST /validate HTTP/1.1\r\nHost: localhost\r\nContent-Type: application/json\r\n"
@@ -114,6 +114,21 @@ class Admission(WithFolder):
                 self.assertEqual(self.post(review_about(*images[:100], volumes=[{"name": "v"}]))[1]["status"]["message"], LATE)
                 while self.post(review_about("other.example/app:v1"))[1]["status"]["message"] != "c0: NoRule":  # waits for the core
                     self.assertLess(time.monotonic() - began, 4)
+
+    def test_a_core_that_has_served_its_reviews(self):
+        """It ends with 0, or its last response does not count; another one goes on."""
+        line, end = frame_of(json.dumps(review_about("other.example/app:v1")), False, 100), time.monotonic() + 20
+        for fake in "", "served 4":
+            variables = {"ROKSNAEP_CORE": str(TOP / "tests/host/fake_core.py"), "FAKE": fake}
+            with self.subTest(fake), mock.patch("host.admission.REVIEWS", 2), mock.patch.dict(os.environ, variables):
+                deciders, cores = Deciders({"rules": []}, {}, lambda *_: mock.Mock()), []
+                for number in range(1, 5):
+                    last = number % 2 == 0
+                    with self.assertRaisesRegex(ValueError, "did not end") if fake and last else contextlib.nullcontext():
+                        self.assertIn("NoRule", deciders.decide(line, end)[0])
+                    self.assertEqual(hasattr(deciders.own, "decider"), not last)
+                    cores += [] if last else [deciders.own.decider.core.process]
+                self.assertEqual([core.returncode for core in cores], [int(fake[-1:] or 0)] * 2)
 
     def test_a_core_that_is_late_is_given_up(self):
         decider, pauses = Decider.__new__(Decider), [0.01] * 500
