@@ -4,6 +4,7 @@ import contextlib
 import functools
 import json
 import logging
+import math
 import ssl
 import threading
 import time
@@ -11,30 +12,47 @@ from concurrent.futures import ThreadPoolExecutor
 from pathlib import Path
 from typing import Any, Awaitable, Callable, Iterable, Protocol
 
+import aiohttp
 from aiohttp import web
 
-from host.core import Core, Frame
+from host.core import WRITTEN, Core, Frame
 from host.files import read
 from host.places import cut
 from host.rules import Rule
 from host.signatures import Signatures
 from host.terminal import printable, say
 
-VERSION, LONGEST, LINE = "admission.k8s.io/v1", 1 << 20, 1 << 20
+VERSION, LONGEST = "admission.k8s.io/v1", 1 << 20  # bytes of a request's body
 REVIEWS = 1000  # of a core, which then ends with 0: what is proved of its responses is said of such an end
 LATE = "not decided in time; ask for fewer images, or raise --deadline and the webhook's timeoutSeconds"
 IMAGES = 100  # the most of a Pod, so that a few Pods cannot have all other reviews wait
-GRACE, IDLE = 1, 30  # seconds: for a core that is late, and for a connection without a whole head of a request
+TICK, IDLE = 0.1, 30  # seconds: between two looks at who waits for a core, and for a connection without a whole head of a request
 # a response, "" if the text is not a review, and the images that a rule covers
 Decided = tuple[str, list[str]]
 
 
 class Replies(Protocol):
+    end: float
+
     def reply(self, frame: Frame) -> tuple[Frame, bytes]: ...
 
 
 # the connections for an image, until the time is over
 Connect = Callable[[str, float], Replies]
+
+
+class Turn:
+    """The time that a review has for a core: until its end, or until it is stopped."""
+
+    def __init__(self, end: float) -> None:
+        self.end, self.began = end, math.inf  # by the monotonic clock; when it got a core
+        self.network: Replies | None = None
+
+    def stop(self) -> None:
+        """Gives up its core, which another thread waits for: the connection now, and at the next frame all."""
+        self.end = -math.inf
+        if self.network:
+            self.network.end = self.end
 
 
 class Decider:
@@ -46,18 +64,19 @@ class Decider:
             raise ValueError("the core began badly")
         self.core.write(admit | {"frame": "admit", "reviews": self.left})
 
-    def decide(self, line: bytes, end: float) -> Decided:
+    def decide(self, line: bytes, turn: Turn) -> Decided:
         """What the core replies to the review in a frame. ValueError or OSError if it broke, or if it allows an image of which the host found no signature valid in this review."""
         core, asked = self.core, list[tuple[str, Signatures]]()
         core.input.write(line)
         core.input.flush()
         while (frame := core.read())["frame"] not in ("response", "unreadable"):
-            if time.monotonic() > end + GRACE:  # each image that is left fails at once, but there may be thousands
+            if time.monotonic() > turn.end:
                 raise TimeoutError(LATE)
             body = b"".join(core.body(frame))
             match frame["frame"]:
                 case "image":
-                    network, signatures = self.connect(frame["image"], end), Signatures(self.rules[frame["rule"]])
+                    network, signatures = self.connect(frame["image"], turn.end), Signatures(self.rules[frame["rule"]])
+                    turn.network = network
                     asked.append((frame["image"], signatures))
                 case "request" | "more":
                     core.write(*network.reply(frame))
@@ -67,7 +86,7 @@ class Decider:
                     raise ValueError(f"the core wrote the frame {name}")
         self.left -= 1
         if not self.left:
-            core.ended(frame, 0)
+            core.ended(frame)
         response = str(frame.get("response", ""))
         if response and json.loads(response)["response"]["allowed"]:
             if unsigned := set(images_of(json.loads(json.loads(line)["review"]))) - {image for image, signatures in asked if signatures.signers}:
@@ -81,15 +100,16 @@ class Deciders:
     def __init__(self, admit: Frame, rules: dict[str, Rule], connect: Connect) -> None:
         self.admit, self.rules, self.connect, self.own = admit, rules, connect, threading.local()
 
-    def decide(self, line: bytes, end: float) -> Decided:
-        if time.monotonic() > end:
+    def decide(self, line: bytes, turn: Turn) -> Decided:
+        turn.began = time.monotonic()
+        if turn.began > turn.end:
             raise TimeoutError(LATE)
         if not hasattr(self.own, "decider"):
             self.own.decider = Decider(self.admit, self.rules, self.connect)
         decider: Decider = self.own.decider
         is_left = False
         try:
-            decided = decider.decide(line, end)
+            decided = decider.decide(line, turn)
             is_left = decider.left > 0
             return decided
         finally:  # whatever was not foreseen allows nothing
@@ -102,7 +122,7 @@ def frame_of(text: str, mutate: bool, moment: int) -> bytes:
     """The line of a review. ValueError if it is too long for a line."""
     frame = {"frame": "review", "moment": moment, "mutate": mutate, "review": text}
     line = json.dumps(frame, ensure_ascii=False).encode() + b"\n"
-    if len(line) > LINE:
+    if len(line) > WRITTEN:
         raise ValueError("the review is too long")
     return line
 
@@ -144,19 +164,31 @@ def logged(text: str, response: str, images: list[str], milliseconds: int) -> st
 
 
 class Webhook:
-    """Reviews, decided side by side by `jobs` cores."""
+    """Reviews, decided side by side by `jobs` cores. A core is for a review as long as its time lasts, but while others wait not for more than half of it."""
 
-    def __init__(self, decide: Callable[[bytes, float], Decided], jobs: int, seconds: float) -> None:
-        self.decide, self.seconds, self.pool = decide, seconds, ThreadPoolExecutor(jobs)
+    def __init__(self, decide: Callable[[bytes, Turn], Decided], jobs: int, seconds: float) -> None:
+        self.decide, self.jobs, self.seconds, self.pool = decide, jobs, seconds, ThreadPoolExecutor(jobs)
+        self.turns = list[Turn]()  # of all that are not decided, in the order in which they get cores
+
+    def has_had_its_share(self, turn: Turn) -> bool:
+        """Whether it has had a core for half of the time, and of all for the longest one, while another one waits for a core."""
+        return len(self.turns) > self.jobs and turn is self.turns[0] and time.monotonic() > turn.began + self.seconds / 2
 
     async def decided(self, text: str, mutate: bool, end: float) -> Decided:
         """The response to a review. What is not decided in time, or by a core that breaks, is denied."""
         line = frame_of(text, mutate, int(time.time()))
         if (count := count_of(text)) > IMAGES:
             return denied(text, f"it has {count} images, and at most {IMAGES} are decided; split the Pod"), []
-        task = asyncio.get_running_loop().run_in_executor(self.pool, self.decide, line, end)
+        turn = Turn(end)
+        self.turns.append(turn)
+        task = asyncio.get_running_loop().run_in_executor(self.pool, self.decide, line, turn)
         task.add_done_callback(lambda done: done.exception())  # it may end after its response
-        await asyncio.wait([task], timeout=end - time.monotonic())
+        try:
+            while not task.done() and time.monotonic() < end and not self.has_had_its_share(turn):
+                await asyncio.wait([task], timeout=min(TICK, end - time.monotonic()))
+        finally:
+            self.turns.remove(turn)
+            turn.stop()
         if not task.done() or time.monotonic() > end:
             return denied(text, LATE), []
         if error := task.exception():
@@ -202,8 +234,20 @@ class Connection(web.RequestHandler):
 
     def data_received(self, data: bytes) -> None:
         super().data_received(data)
-        if len(self._messages) > 1:
+        if self.waiting() > 1:
             self.abort()
+
+    def waiting(self) -> int:
+        """How many requests have come and are not begun. aiohttp has no public name for them, so that `serve` tries this one first."""
+        return len(self._messages)
+
+    def tried(self) -> bool:
+        """Whether two requests that come at once are two that wait, as with the aiohttp that this was written for."""
+        try:
+            self.data_received(b"GET / HTTP/1.1\r\n\r\n" * 2)
+            return self.waiting() == 2
+        except (AttributeError, TypeError):
+            return False
 
 
 @web.middleware
@@ -212,6 +256,9 @@ async def awaited(request: web.Request, handler: Callable[[web.Request], Awaitab
     connection = request.protocol
     assert isinstance(connection, Connection)
     connection.timer.cancel()
+    if "Upgrade" in request.headers:  # after which aiohttp would hold all that comes before the response
+        connection.close()
+        raise web.HTTPBadRequest(text="send the review without an upgrade to another protocol\n")
     try:
         return await handler(request)
     finally:
@@ -259,6 +306,8 @@ async def serve(webhook: Webhook, place: tuple[str, int], files: tuple[Path, Pat
     manager = runner.server
     assert manager
     connection = functools.partial(Connection, manager, loop=loop, auto_decompress=False)  # which would inflate a body beyond its limit
+    if not connection().tried():
+        raise OSError(f"aiohttp {aiohttp.__version__} does not say how many requests wait on a connection, which have to be limited; install Debian's python3-aiohttp (3.8)")
     try:
         site = await loop.create_server(connection, *place, ssl=context, ssl_handshake_timeout=IDLE, ssl_shutdown_timeout=1)
     except (OSError, UnicodeError) as error:

@@ -5,12 +5,12 @@ import os
 import re
 import time
 from pathlib import Path
-from typing import Any, BinaryIO, Callable, Generic, Iterable, NamedTuple, TypeVar
+from typing import Any, BinaryIO, Callable, Generic, Iterable, Iterator, NamedTuple, TypeVar
 from urllib.parse import urlsplit
 
 from host.beside import side_by_side
 from host.conversation import BLOB, Answered, Registry
-from host.core import PIECE, WRITTEN, Core, Frame, framed
+from host.core import PIECE, Core, Frame, fits, framed
 from host.layout import Layout
 
 PARTS, TRIES, FRESH = 16, 5, 8 << 20  # ranges of about the same size; cores for a blob, one after another; bytes that wait for the disk
@@ -30,7 +30,7 @@ Refused = tuple[Frame, Answered]  # the last frame of a core, and who was asked
 def parsed(content: bytes) -> dict[str, Any]:
     """A manifest as the member of a frame; ValueError if a number in it is not an integer, which frames do not have, or if it is too long for a line."""
     manifest: dict[str, Any] = json.loads(content, parse_float=int)
-    if len(json.dumps(manifest)) > WRITTEN * 7 // 8:
+    if not fits(manifest):
         raise ValueError("the manifest is longer than a line")
     return manifest
 
@@ -228,26 +228,20 @@ class Blobs(Ranges[Registry]):
     def asked(self, span: range, received: Received) -> tuple[Frame, list[str]]:
         """How a core ended over a range, and the digests of the blobs that stood, in order."""
         core, stood, received.has_grown = Core(False), list[str](), False
+
+        def answer(frame: Frame, body: Iterator[bytes]) -> bool:
+            match frame["frame"]:
+                case "request" | "more":
+                    core.write(*received.reply(frame, body))
+                    received.proceed()
+                case "stood":
+                    stood[:] = frame["digests"]
+                    if stood != [blob["digest"] for blob in self.blobs[span.start:span.stop]][:len(stood)]:
+                        raise ValueError("a blob stood that was not asked for")
+            return frame["frame"] == "refused" or len(stood) == len(span)
+
         try:
-            while (frame := core.read())["frame"] != "refused":
-                body = core.body(frame)
-                match frame["frame"]:
-                    case "begin":
-                        core.write(self.first_frame(span))
-                    case "request" | "more":
-                        core.write(*received.reply(frame, body))
-                        received.proceed()
-                    case "stood":
-                        stood = frame["digests"]
-                        if stood != [blob["digest"] for blob in self.blobs[span.start:span.stop]][:len(stood)]:
-                            raise ValueError("a blob stood that was not asked for")
-                        if len(stood) == len(span):
-                            break
-                for _ in body:
-                    pass
-            return core.ended(frame, 1 if frame["frame"] == "refused" else 0), stood
-        except (BrokenPipeError, LookupError, TypeError, ValueError):
-            return {"frame": "ended", "status": core.end()}, []
+            end = core.talk(self.first_frame(span), answer)
         finally:
             received.leave()
-            core.close()
+        return end, stood if end["frame"] != "ended" else []

@@ -41,12 +41,8 @@ class Skopeo:
     def push(self, layout: Path, digest: str) -> str:
         """Pushes the manifest of a layout under its digest, with its blobs; what went wrong, or nothing."""
         words = [f"--dest-{name}={value}" for name, value in self.access.items()]
-        run = subprocess.Popen([str(self.program), "--insecure-policy", "copy", *words, "--quiet", "--preserve-digests", f"oci:{layout}", f"docker://{self.repository}@{digest}"],
-                               env=self.environment, stdin=subprocess.DEVNULL, stdout=subprocess.DEVNULL, stderr=subprocess.PIPE, start_new_session=True)
-        try:
-            err = run.communicate()[1]
-        finally:
-            run.kill()
-        said = re.sub('^.*? msg="|"$', "", err.decode(errors="replace").strip().split("\n")[-1]).replace('\\"', '"')
+        done = subprocess.run([str(self.program), "--insecure-policy", "copy", *words, "--quiet", "--preserve-digests", f"oci:{layout}", f"docker://{self.repository}@{digest}"],
+                              env=self.environment, stdin=subprocess.DEVNULL, stdout=subprocess.DEVNULL, stderr=subprocess.PIPE, start_new_session=True)
+        said = re.sub('^.*? msg="|"$', "", done.stderr.decode(errors="replace").strip().split("\n")[-1]).replace('\\"', '"')
         said = re.sub(r'\?[^\s"]*', "", said)  # of a URL the query, which may be a secret
-        return said or "skopeo failed" if run.returncode else ""
+        return said or "skopeo failed" if done.returncode else ""

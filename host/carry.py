@@ -3,7 +3,7 @@ import contextlib
 import re
 import threading
 import time
-from typing import IO, Callable, Iterable, Mapping
+from typing import IO, Callable, Iterable, Iterator, Mapping
 
 from host.beside import side_by_side
 from host.blobs import TRIES, Asked, Blobs, Received, Refused, beginning
@@ -99,28 +99,22 @@ class Pair:
     def push(self, first: Frame, target: Registry) -> tuple[Frame, str]:
         """The last frame of the core that pushes, or of the other one if that ended both; and at which of the registries."""
         core = self.core
-        try:
-            while (frame := core.read())["frame"] not in ("carried", "refused"):
-                body = core.body(frame)
-                match frame["frame"]:
-                    case "begin":
-                        core.write(first)
-                    case "request" | "more":
-                        if frame.get("method") == "POST" and not self.thread.ident:
-                            self.thread.start()
-                        core.write(*target.reply(frame, body))
-                for _ in body:
-                    pass
-            if frame["frame"] == "carried" and (frame["digest"] != first["digest"] or frame["state"] == "pushed" and not self.is_whole):
-                raise ValueError("a blob was carried that was not asked for, or had not come whole")
-            return core.ended(frame, 0 if frame["frame"] == "carried" else 1), "target"
-        except (BrokenPipeError, LookupError, TypeError, ValueError):
-            status = core.end()
+
+        def answer(frame: Frame, body: Iterator[bytes]) -> bool:
+            match frame["frame"]:
+                case "request" | "more":
+                    if frame.get("method") == "POST" and not self.thread.ident:
+                        self.thread.start()
+                    core.write(*target.reply(frame, body))
+                case "carried" if frame["digest"] != first["digest"] or frame["state"] == "pushed" and not self.is_whole:
+                    raise ValueError("a blob was carried that was not asked for, or had not come whole")
+            return frame["frame"] in ("carried", "refused")
+
+        end = core.talk(first, answer)
+        if end["frame"] == "ended":
             for raised in self.raised:
-                raise raised from None
-            return (self.refusal, "source") if self.refusal else ({"frame": "ended", "status": status}, "target")
-        finally:
-            core.close()
+                raise raised
+        return (self.refusal, "source") if end["frame"] == "ended" and self.refusal else (end, "target")
 
     def leave(self) -> None:
         """Waits for the thread, so that another pair can have its connection."""

@@ -12,14 +12,14 @@ from pathlib import Path
 from typing import Any, NoReturn, Sized
 
 from host.blobs import Blobs, Refused, parsed, refused_layer
-from host.checks import Checks, fits
+from host.checks import Checks
 from host.conversation import Answered, Exchanges, Sent, converse
 from host.copies import Copy, Sides
-from host.core import Core, Frame
+from host.core import Core, Frame, fits
 from host.credentials import LONGEST, credentials
 from host.layout import Layout, Stored
 from host.lock import Lock, Pinned, entry_of, read_lock, text_of, whole, write_lock
-from host.network import SIGNALS, Network
+from host.network import SIGNALS, Network, uninterrupted
 from host.options import parser
 from host.places import Access, is_loopback, repository_of
 from host.refusals import Refusals
@@ -64,15 +64,18 @@ def logins(option: argparse.Namespace) -> list[list[str] | None]:
     return [[name, password] if name else None for name, password in zip(names, passwords)]
 
 
-def reached(option: argparse.Namespace, end: float, reference: str, login: list[str] | None, is_plain: bool, authority: Path | None,
-            certificate: Path | None = None, private_key: Path | None = None) -> tuple[Frame, Network]:
-    """Members of the settings about a registry, and the connections to it."""
-    repository = repository_of(reference)
-    registry = repository.partition("/")[0]
-    auth = {"basic": login} if login else credentials(repository, option.authfile)
+def connected(option: argparse.Namespace, end: float, reference: str, is_plain: bool, authority: Path | None,
+              certificate: Path | None = None, private_key: Path | None = None) -> Network:
+    """The connections to the registry of a reference."""
+    registry = repository_of(reference).partition("/")[0]
     plain = is_plain or is_loopback(registry) and not (authority or certificate)
-    access = Access(registry, plain, option.allow_host, authority, certificate, private_key, option.proxy)
-    return {"reference": reference, "protocol": "http" if plain else "https", "auth": auth}, Network(access, option.timeout, end, option.limit)
+    return Network(Access(registry, plain, option.allow_host, authority, certificate, private_key, option.proxy), option.timeout, end, option.limit)
+
+
+def about(option: argparse.Namespace, reference: str, login: list[str] | None, network: Network) -> Frame:
+    """Members of the settings about a registry."""
+    auth = {"basic": login} if login else credentials(repository_of(reference), option.authfile)
+    return {"reference": reference, "protocol": "http" if network.access.plain else "https", "auth": auth}
 
 
 class Run:
@@ -84,7 +87,7 @@ class Run:
         self.layout: Layout | None = None
         self.settings: Frame = {"frame": "documents", "accepted": option.type}
         self.has_blobs = option.word in ("pull", "check") or option.word == "verify" and option.blobs
-        self.sent: Sent = []
+        self.sent: Sent = {}
         self.registry: Network | Stored | Pinned
         if option.word == "check":
             stored = Stored(Path(option.place), option.tag)
@@ -106,10 +109,11 @@ class Run:
     def network(self, end: float) -> Network:
         """The connections to the registry; of a copy those to the target too."""
         option, users = self.option, logins(self.option)
-        of_registry, network = reached(option, end, option.place, users[0], option.http, option.ca, option.client_cert, option.client_key)
-        self.settings |= of_registry | {"platform": option.platform or f"linux/{MACHINE}"}
+        network = connected(option, end, option.place, option.http, option.ca, option.client_cert, option.client_key)
+        self.settings |= about(option, option.place, users[0], network) | {"platform": option.platform or f"linux/{MACHINE}"}
         if option.word == "copy":
-            target, other = reached(option, end, option.target, users[1], option.target_http, option.target_ca)
+            other = connected(option, end, option.target, option.target_http, option.target_ca)
+            target = about(option, option.target, users[1], other)
             self.copy = Copy(option, self.rule, self.settings | self.rule.settings(), target, Sides(network, other, []))
         return network
 
@@ -166,7 +170,7 @@ class Run:
     def fits(self) -> bool:
         """Whether the manifest can be a member of a frame; else one core pulls the whole image."""
         try:
-            self.manifest = parsed(*(body for frame, body in self.sent if frame.get("kind") == "manifest"))
+            self.manifest = parsed(self.sent["manifest"][1])
             return True
         except ValueError:
             return False
@@ -200,10 +204,7 @@ def locked(option: argparse.Namespace, end: float) -> tuple[int, str, Frame]:
     entries = {}
     for place in option.place:
         run = Run(argparse.Namespace(**vars(option) | {"place": place}), end)
-        try:
-            status, sentence, rest = run.decide()
-        finally:
-            run.core.process.kill()
+        status, sentence, rest = run.decide()
         if status:
             return status, sentence, rest
         entry = entry_of(place, option.type, run.sent, rest)
@@ -241,14 +242,12 @@ def admit(option: argparse.Namespace) -> NoReturn:
     policy = Policy(option.policy)
 
     def connect(image: str, end: float) -> Network:
-        registry = repository_of(image).partition("/")[0]
-        access = Access(registry, is_loopback(registry) and not option.ca, option.allow_host, option.ca, None, None, option.proxy)
-        return Network(access, option.timeout, end, option.limit)
+        return connected(option, end, image, False, option.ca)
 
     def settings(images: str, rule: Rule) -> Frame:
-        of_registry, _ = reached(option, 0, f"{images}/x", None, False, option.ca)
+        image = f"{images}/x"
         return {"frame": "settings", "accepted": option.type, "platform": option.platform or f"linux/{MACHINE}", "moment": 0,
-                "blobs": False} | of_registry | rule.settings()
+                "blobs": False} | about(option, image, None, connect(image, 0)) | rule.settings()
 
     if len(by_images := dict(policy.rules)) < len(policy.rules):
         raise ValueError(f"{option.policy} has two rules for the same images")
@@ -277,23 +276,22 @@ def stop(number: int, _: object) -> NoReturn:
 
 def result(option: argparse.Namespace) -> tuple[int, str, Frame]:
     """The status, the sentence, and what else the JSON object has."""
+    end = time.monotonic() + option.deadline if option.deadline else math.inf
     with contextlib.ExitStack() as after:
-        if option.word in ("lock", "lockcheck", "admit"):
-            try:
-                if option.word == "admit":
-                    admit(option)
-                end = time.monotonic() + option.deadline if option.deadline else math.inf
-                return locked(option, end) if option.word == "lock" else checked(option)
-            except (OSError, ValueError) as error:
-                raise End(2, str(error)) from None
         try:
-            run = Run(option, time.monotonic() + option.deadline if option.deadline else math.inf)
+            match option.word:
+                case "admit":
+                    admit(option)
+                case "lock":
+                    return locked(option, end)
+                case "lockcheck":
+                    return checked(option)
+            run = Run(option, end)
             after.callback(run.core.process.kill)
             if option.word == "pull":
-                signal.pthread_sigmask(signal.SIG_BLOCK, SIGNALS)  # until its folder has somebody who removes it
-                after.callback(run.open_layout().close)
-                after.callback(hold)
-                signal.pthread_sigmask(signal.SIG_UNBLOCK, SIGNALS)
+                with uninterrupted():  # until its folder has somebody who removes it
+                    after.callback(run.open_layout().close)
+                    after.callback(hold)
         except (OSError, ValueError) as error:
             raise End(2, str(error)) from None
         status, sentence, rest = run.copy.decide(run.core) if option.word == "copy" else run.decide()

@@ -1,7 +1,7 @@
 """The conversation with the core: its frames are answered until one says how the pull ended."""
 import json
 import re
-from typing import BinaryIO, Callable, Iterable, Protocol
+from typing import BinaryIO, Iterable, Iterator, Protocol
 from urllib.parse import urlsplit
 
 from host.core import PIECE, Core, Frame, framed
@@ -10,7 +10,7 @@ from host.signatures import Signatures
 
 BLOB, RECORDED = re.compile(r"/v2/.+/blobs/(sha\d+:[0-9a-f]+)"), 64 << 20
 
-Sent = list[tuple[Frame, bytes]]  # frames, each with its bytes
+Sent = dict[str, tuple[Frame, bytes]]  # the frames of an `index`, a `manifest` and a `signature`, each with its bytes
 
 
 class Answered(Protocol):
@@ -34,20 +34,39 @@ class Registry(Answered, Protocol):
 
     def ahead(self) -> None: ...
 
-    def turn(self, side: str) -> None: ...
-
 
 class Exchanges:
     """What the core asks of a registry. The documents of the search are recorded; blobs of the image are kept in the layout, or read there."""
+    last = "pulled"  # the frame that says that it was done
 
     def __init__(self, registry: Registry, layout: Layout | None) -> None:
         self.registry, self.layout, self.digest = registry, layout, ""
-        self.sent: Sent = []  # the documents that the core sent
-        self.carry: Callable[[], bool] | None = None  # has the blobs of a copy carried, and says whether all were
+        self.sent: Sent = {}  # the documents that the core sent
         self.is_search, self.is_signed, self.is_document = True, False, False
         self.bodies, self.held, self.accepted, self.kept = [bytearray()], 0, False, 0
         self.file: BinaryIO | None = None
         self.download: BinaryIO | None = None
+
+    def answer(self, core: Core, frame: Frame, body: Iterator[bytes], signatures: Signatures) -> bool:
+        """Replies to a frame. Whether it is the last one."""
+        layout = self.layout
+        match frame["frame"]:
+            case "request" | "more":
+                core.write(*self.reply(frame, body))
+            case "verify" | "judge":
+                reply = signatures.reply(frame, b"".join(body))
+                self.searched(bool(reply.get("valid") or reply.get("vouched")))
+                core.write(reply)
+            case "document" | "signature":
+                kind, content = frame["kind"] if frame["frame"] == "document" else "signature", b"".join(body)
+                self.sent[kind] = frame, content
+                if layout and kind != "signature":
+                    if kind == "manifest":
+                        layout.manifest = {"mediaType": frame["media_type"], "digest": frame["digest"], "size": frame["bytes"]}
+                    layout.add(frame["digest"], [content], len(content))
+            case "blob" if layout:
+                layout.add(frame["digest"], body, frame.get("bytes", 0))
+        return frame["frame"] in ("refused", self.last)
 
     def reply(self, frame: Frame, body: Iterable[bytes] = ()) -> tuple[Frame, bytes]:
         if frame["frame"] == "request":
@@ -105,37 +124,4 @@ class Exchanges:
 
 def converse(core: Core, settings: Frame, exchanges: Exchanges, signatures: Signatures) -> Frame:
     """Answers the core's frames. The one that says how the pull ended, or one named `ended` with the core's status if none does, or not with the status that fits it."""
-    layout = exchanges.layout
-    try:
-        while (frame := core.read())["frame"] not in ("refused", "copied" if exchanges.carry else "pulled"):
-            body = core.body(frame)
-            match frame["frame"]:
-                case "begin":
-                    core.write(settings)
-                case "request" | "more":
-                    core.write(*exchanges.reply(frame, body))
-                case "side":
-                    exchanges.registry.turn(frame["side"])
-                case "carry" if exchanges.carry:
-                    if not exchanges.carry():
-                        return frame
-                    core.write({"frame": "carried"})
-                case "verify" | "judge":
-                    reply = signatures.reply(frame, b"".join(body))
-                    exchanges.searched(bool(reply.get("valid") or reply.get("vouched")))
-                    core.write(reply)
-                case "document" | "signature":
-                    exchanges.sent.append((frame, content := b"".join(body)))
-                    if layout and frame["frame"] == "document":
-                        if frame["kind"] == "manifest":
-                            layout.manifest = {"mediaType": frame["media_type"], "digest": frame["digest"], "size": frame["bytes"]}
-                        layout.add(frame["digest"], [content], len(content))
-                case "blob" if layout:
-                    layout.add(frame["digest"], body, frame.get("bytes", 0))
-            for _ in body:
-                pass
-        return core.ended(frame, 1 if frame["frame"] == "refused" else 0)
-    except (BrokenPipeError, LookupError, TypeError, ValueError):
-        return {"frame": "ended", "status": core.end()}
-    finally:
-        core.process.kill()
+    return core.talk(settings, lambda frame, body: exchanges.answer(core, frame, body, signatures))

@@ -4,7 +4,7 @@ import json
 import tempfile
 import time
 from pathlib import Path
-from typing import Iterable
+from typing import Callable, Iterable, Iterator
 
 from host.blobs import Blobs, Refused, parsed, refused_layer
 from host.carriers import Skopeo
@@ -59,6 +59,32 @@ class Sides:
         return answer, data
 
 
+class NotCarried(Exception):
+    """A blob was refused, so that the core is not replied to any more."""
+
+    def __init__(self, refused: Refused) -> None:
+        self.refused = refused
+
+
+class Copied(Exchanges):
+    """The same of a copy: its core says which registry it asks, and when the target has to have the blobs."""
+    last = "copied"
+
+    def __init__(self, sides: Sides, carry: Callable[[Sent], Refused | None]) -> None:
+        super().__init__(sides, None)
+        self.sides, self.carry = sides, carry
+
+    def answer(self, core: Core, frame: Frame, body: Iterator[bytes], signatures: Signatures) -> bool:
+        match frame["frame"]:
+            case "side":
+                self.sides.turn(frame["side"])
+            case "carry":
+                if refused := self.carry(self.sent):
+                    raise NotCarried(refused)
+                core.write({"frame": "carried"})
+        return super().answer(core, frame, body, signatures)
+
+
 class Copy:
     """One copy; with `--all` also of each image of its index, all of which the target has before the index."""
 
@@ -70,45 +96,41 @@ class Copy:
 
     def decide(self, core: Core) -> tuple[int, str, Frame]:
         """The status, the sentence and the core's last frame."""
-        name, exchanges = self.option.place, Exchanges(self.sides, None)
-        end, registry = self.copied(core, self.settings, exchanges, True)
+        name = self.option.place
+        (end, registry), sent = self.copied(core, self.settings, self.sides, True)
         if end["frame"] == "ended":
             return failed(name, end["status"])
         if end["frame"] == "refused":
             return 1, Refusals(registry.statuses, registry.failure, self.signatures.why).sentence(name, end["report"]), end
-        sent = kinds_of(exchanges.sent)
-        signature, digest = sent["signature"]["digest"], first_of(sent)
+        kinds = {kind: frame for kind, (frame, _) in sent.items()}
+        manifest, signature, digest = kinds["manifest"]["digest"], kinds["signature"]["digest"], kinds.get("index", kinds["manifest"])["digest"]
         signer = self.signatures.signer(signature)
         told = f"copied {name} to {self.option.target}: {digest}, signed by {signature}{signer and f' ({signer})'}"
-        if sent["signature"]["kind"] == "bundle" and not (self.sides.pushed and self.sides.pushed[-1]):
+        if kinds["signature"]["kind"] == "bundle" and not (self.sides.pushed and self.sides.pushed[-1]):
             told += "; the target does not list referrers, so the signature is found there by its digest alone"
         there = [digest for digest, state in self.states.items() if state == "there"]
         told += f"; {len(there)} of {len(self.states)} blobs were there already, and not pulled" if there else ""
-        return 0, told, end | {"there": there} | {"digest": digest, "manifest": sent["manifest"]["digest"], "signature": signature, "signer": signer, "target": self.option.target}
+        return 0, told, end | {"there": there} | {"digest": digest, "manifest": manifest, "signature": signature, "signer": signer, "target": self.option.target}
 
-    def copied(self, core: Core, settings: Frame, exchanges: Exchanges, tag: bool) -> Refused:
-        """The last frame of a core that copies, and who was asked before it; or why its blobs are not at the target."""
-        sides, refused = exchanges.registry, list[Refused]()
-
-        def carry() -> bool:
-            refused.extend(filter(None, [self.carried(settings, exchanges.sent, tag)]))
-            return not refused
-
-        exchanges.carry = carry
+    def copied(self, core: Core, settings: Frame, sides: Sides, tag: bool) -> tuple[Refused, Sent]:
+        """The last frame of a core that copies, and who was asked before it; or why its blobs are not at the target. And the documents."""
+        exchanges = Copied(sides, lambda sent: self.carried(settings, sent, tag))
         first = {"frame": "copy", "settings": settings | {"moment": int(time.time())}, "target": self.target, "replace": self.option.replace, "tag": tag}
-        end = converse(core, first, exchanges, self.signatures)
-        return refused[0] if refused else (end, sides)
+        try:
+            return (converse(core, first, exchanges, self.signatures), sides), exchanges.sent
+        except NotCarried as stopped:
+            return stopped.refused, exchanges.sent
 
     def carried(self, settings: Frame, sent: Sent, tag: bool) -> Refused | None:
         """Carries the blobs of the documents that the core has decided, and before them, if all are to be copied, copies the other images of the index."""
-        documents, kinds = {frame["kind"]: content for frame, content in sent if frame["frame"] == "document"}, kinds_of(sent)
-        if tag and self.option.all and "index" in documents:
-            entries = dict.fromkeys(entry["digest"] for entry in json.loads(documents["index"])["manifests"])
-            for other in (digest for digest in entries if digest != kinds["manifest"]["digest"]):
-                end, asked = self.copied(Core(), settings | {"platform": {"digest": other}}, Exchanges(self.sides.beside(), None), False)
-                if end["frame"] != "copied":
-                    return end, asked
-        return self.carry_blobs(settings, kinds["manifest"], documents["manifest"])
+        manifest, content = sent["manifest"]
+        if tag and self.option.all and "index" in sent:
+            entries = dict.fromkeys(entry["digest"] for entry in json.loads(sent["index"][1])["manifests"])
+            for other in (digest for digest in entries if digest != manifest["digest"]):
+                refused, _ = self.copied(Core(), settings | {"platform": {"digest": other}}, self.sides.beside(), False)
+                if refused[0]["frame"] != "copied":
+                    return refused
+        return self.carry_blobs(settings, manifest, content)
 
     def carry_blobs(self, settings: Frame, frame: Frame, content: bytes) -> Refused | None:
         """Has the blobs carried by cores, and those that these do not carry by skopeo."""
@@ -138,12 +160,3 @@ class Copy:
             if said := skopeo.push(layout.work, frame["digest"]):
                 raise End(1, f"its blobs that are empty, or have other digests than SHA-256, were not pushed to {self.option.target}: {said}")
         return None
-
-
-def kinds_of(sent: Sent) -> dict[str, Frame]:
-    return {frame["kind"] if frame["frame"] == "document" else "signature": frame for frame, _ in sent}
-
-
-def first_of(kinds: dict[str, Frame]) -> str:
-    """The digest that was signed."""
-    return str(kinds.get("index", kinds["manifest"])["digest"])

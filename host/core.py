@@ -4,7 +4,7 @@ import fcntl
 import json
 import os
 import subprocess
-from typing import IO, Any, Iterator
+from typing import IO, Any, Callable, Iterator
 
 from host.release import program
 
@@ -14,6 +14,11 @@ WRITTEN = 1 << 20  # the most bytes of a line that the core reads
 PIECE = PIPE - 4096  # so that a pipe holds a piece with its line
 CARRIED = 3  # the descriptor on which a core that carries a blob gets its bytes
 LEAVES = 30  # seconds: in which a core ends after its last frame
+
+
+def fits(word: Frame) -> bool:
+    """Whether it can be the line of a frame, with a few more members."""
+    return len(json.dumps(word)) <= WRITTEN * 7 // 8
 
 
 def framed(piece: bytes) -> tuple[Frame, bytes]:
@@ -91,8 +96,26 @@ class Core:
                 stream.close()
         self.process.wait()
 
-    def ended(self, frame: Frame, status: int) -> Frame:
+    def talk(self, first: Frame, answer: Callable[[Frame, Iterator[bytes]], bool]) -> Frame:
+        """Replies to the core's frames until `answer` says that one is the last. It; or one named `ended` with the core's status, if it does not come or does not count."""
+        try:
+            while True:
+                frame = self.read()
+                body = self.body(frame)
+                if frame["frame"] == "begin":
+                    self.write(first)
+                elif answer(frame, body):
+                    return self.ended(frame)
+                for _ in body:  # what the answer does not need
+                    pass
+        except (BrokenPipeError, LookupError, TypeError, ValueError):
+            return {"frame": "ended", "status": self.end()}
+        finally:
+            self.close()
+
+    def ended(self, frame: Frame) -> Frame:
         """The last frame, if the core writes nothing after it and exits with the status that fits it. ValueError if not: then what it said does not count."""
+        status = 1 if frame["frame"] == "refused" or frame.get("verdict", "holds") != "holds" else 0
         try:
             is_over = self.process.wait(LEAVES) == status and not self.output.read(1)
         except subprocess.TimeoutExpired:

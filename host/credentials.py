@@ -1,17 +1,22 @@
 """The credentials for a registry, from the files and the programs that docker, podman and skopeo keep them in."""
 import base64
+import contextlib
 import json
 import os
 import re
+import selectors
 import shutil
 import subprocess
+import time
 from pathlib import Path
+from subprocess import PIPE
 from typing import Any
 
 from host.files import read
 
 FORMS = ("{}", "https://{}", "https://{}/", "https://{}/v1/", "https://{}/v2/", "http://{}")
-HUB, WAIT, LONGEST = ("docker.io", "index.docker.io"), 30, 64 << 10  # seconds for a program; bytes of a user, a password or a token
+HUB, LONGEST = ("docker.io", "index.docker.io"), 64 << 10  # bytes of a user, a password or a token
+WAIT, WRITTEN = 30, 1 << 20  # seconds for a program, and bytes that it may write
 TOKEN = "an identity token is kept for {}, which cannot be exchanged here; use a user and a password: --username and --password-stdin"
 
 
@@ -25,17 +30,45 @@ def files(authfile: Path | None) -> list[Path]:
     return [Path(folder) / name for name, folder in folders.items() if folder and (Path(folder) / name).is_file()]
 
 
+def run(program: str, server: str) -> tuple[int, bytes, bytes]:
+    """The status of a program, and what it writes about a server on standard output and on standard error; within bounds, which subprocess.run has for the time alone."""
+    until = time.monotonic() + WAIT
+    with subprocess.Popen([program, "get"], stdin=PIPE, stdout=PIPE, stderr=PIPE) as process, selectors.DefaultSelector() as streams:
+        assert process.stdin and process.stdout and process.stderr
+        written = {process.stdout.fileno(): b"", process.stderr.fileno(): b""}
+        try:
+            with contextlib.suppress(BrokenPipeError), process.stdin:  # which it need not read
+                process.stdin.write(server.encode())
+            for number in written:
+                streams.register(number, selectors.EVENT_READ)
+            while streams.get_map():
+                ready = streams.select(max(0, until - time.monotonic()))
+                if not ready:
+                    raise subprocess.TimeoutExpired(process.args, WAIT)
+                for key, _ in ready:
+                    piece = os.read(key.fd, WRITTEN)
+                    written[key.fd] += piece
+                    if not piece:
+                        streams.unregister(key.fd)
+                    if len(written[key.fd]) > WRITTEN:
+                        raise ValueError(f"{Path(program).name} writes more than {WRITTEN} bytes, which are not credentials")
+            out, errors = written.values()
+            return process.wait(max(0, until - time.monotonic())), out, errors
+        finally:
+            process.kill()
+
+
 def helped(helper: str, server: str) -> Any:
     """What docker-credential-HELPER, a program on the PATH, has for a server."""
     program = shutil.which(f"docker-credential-{helper}") if re.fullmatch(r"[\w.-]+", helper, re.ASCII) else None
     if not program:
         raise ValueError(f"there is no program docker-credential-{helper} on the PATH")
-    done = subprocess.run([program, "get"], input=server.encode(), capture_output=True, timeout=WAIT, check=False)
-    if done.returncode:
-        if b"not found" in done.stdout:
+    status, written, errors = run(program, server)
+    if status:
+        if b"not found" in written:
             return None
-        raise ValueError(f"docker-credential-{helper} failed: {(done.stdout or done.stderr).decode(errors='replace').strip()[:300]}")
-    found = json.loads(done.stdout)
+        raise ValueError(f"docker-credential-{helper} failed: {(written or errors).decode(errors='replace').strip()[:300]}")
+    found = json.loads(written)
     if found["Username"] == "<token>":
         raise ValueError(TOKEN.format(server))
     return {"basic": [found["Username"], found["Secret"]]} if found["Username"] or found["Secret"] else None

@@ -1,4 +1,4 @@
-"""Files that others may have made: only regular ones are read, and within a bound, so that none holds the command or fills its memory."""
+"""Files that others may have made: only regular ones are read, and within a bound, so that none holds the command or fills its memory. And files that are written whole."""
 import json
 import os
 import stat
@@ -21,6 +21,22 @@ def opened(path: Path, longest: int = LONGEST) -> BinaryIO:
 def read(path: Path, longest: int = LONGEST) -> bytes:
     with opened(path, longest) as file:
         return file.read(longest)
+
+
+def replace(path: Path, content: bytes, mode: int) -> None:
+    """Writes a file whole, by a rename; else what has its name stays as it was."""
+    import tempfile  # which takes a while
+    file = tempfile.NamedTemporaryFile(dir=path.absolute().parent, prefix=f".{path.name}-", delete=False)
+    try:
+        with file:
+            file.write(content)
+            file.flush()
+            os.fsync(file.fileno())
+        os.chmod(file.name, mode)
+        os.rename(file.name, path)
+    except BaseException:
+        os.unlink(file.name)
+        raise
 
 
 def unique(pairs: list[tuple[str, Any]]) -> dict[str, Any]:

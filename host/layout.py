@@ -235,8 +235,6 @@ class Stored:
 
     def ahead(self) -> None: ...
 
-    def turn(self, side: str) -> None: ...
-
     def reply(self, frame: Frame, body: Iterable[bytes] = ()) -> tuple[Frame, bytes]:
         if frame["frame"] == "more":
             return framed(self.body.read(PIECE))

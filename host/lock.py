@@ -1,17 +1,15 @@
 """Lock files: entries from the frames of an image's documents, and their check, which the core decides."""
 import contextlib
 import json
-import os
 import subprocess
 import tempfile
 import time
 from pathlib import Path
-from typing import Any, Iterable
+from typing import Any, Iterable, Iterator
 
-from host.checks import fits
 from host.conversation import Exchanges, Sent, converse
-from host.core import Core, Frame
-from host.files import read
+from host.core import Core, Frame, fits
+from host.files import read, replace
 from host.layout import BUNDLE, MANIFEST, Layout, Stored, digest_of
 from host.network import Network
 from host.places import repository_of
@@ -42,11 +40,10 @@ def whole(reference: str) -> str:
 
 def entry_of(reference: str, accepted: list[str], sent: Sent, end: Frame) -> Entry:
     """The entry of an image; ValueError if a document is not UTF-8."""
-    found = {frame["kind"] if frame["frame"] == "document" else "signature": (frame, body.decode()) for frame, body in sent}
-    head, content = found["signature"]
-    signature = {"annotations": head["annotations"], "content": content, "kind": head["kind"], "oci_digest": head["digest"]}
-    return {"accepted": accepted, "digest": end["digest"], "first": found.get("index", found["manifest"])[1], "image": whole(reference),
-            "manifest": found["manifest"][1], "manifest_digest": end["manifest"], "signature": signature}
+    head, content = sent["signature"]
+    signature = {"annotations": head["annotations"], "content": content.decode(), "kind": head["kind"], "oci_digest": head["digest"]}
+    return {"accepted": accepted, "digest": end["digest"], "first": sent.get("index", sent["manifest"])[1].decode(), "image": whole(reference),
+            "manifest": sent["manifest"][1].decode(), "manifest_digest": end["manifest"], "signature": signature}
 
 
 def text_of(entries: list[Entry]) -> str:
@@ -82,16 +79,18 @@ def unread(text: str) -> str:
 def holds(entry: Entry, settings: Frame, signatures: Signatures) -> bool:
     """Whether the core says that a lock of the entry holds. It asks about signatures, and sends no request."""
     core = Core()
-    try:
-        while (frame := core.read())["frame"] != "lock":
-            message = b"".join(core.body(frame))
-            core.write({"frame": "lockcheck", "lock": text_of([entry]), "settings": settings} if frame["frame"] == "begin" else signatures.reply(frame, message))
-        return bool(core.ended(frame, 0 if frame["verdict"] == "holds" else 1)["verdict"] == "holds")
-    except (BrokenPipeError, LookupError, TypeError, ValueError):
-        status = core.end()
-        raise End(status if status in ENDS else 4, ENDS.get(status, f"the core ended unexpectedly, with the status {status}")) from None
-    finally:
-        core.process.kill()
+
+    def answer(frame: Frame, body: Iterator[bytes]) -> bool:
+        if frame["frame"] == "lock":
+            return True
+        core.write(signatures.reply(frame, b"".join(body)))
+        return False
+
+    end = core.talk({"frame": "lockcheck", "lock": text_of([entry]), "settings": settings}, answer)
+    if end["frame"] == "ended":
+        status = end["status"]
+        raise End(status if status in ENDS else 4, ENDS.get(status, f"the core ended unexpectedly, with the status {status}"))
+    return bool(end["verdict"] == "holds")
 
 
 class Lock:
@@ -137,18 +136,9 @@ def read_lock(path: Path) -> Lock:
 
 
 def write_lock(path: Path, text: str) -> None:
-    """Writes the file whole, by a rename; else it stays as it was."""
+    """Writes the file; else it stays as it was."""
     try:
-        with tempfile.NamedTemporaryFile("w", dir=path.absolute().parent, prefix=f".{path.name}-", delete=False, encoding="utf-8", newline="") as file:
-            try:
-                file.write(text)
-                file.flush()
-                os.fsync(file.fileno())
-                os.chmod(file.name, 0o644)
-                os.rename(file.name, path)
-            except BaseException:
-                os.unlink(file.name)
-                raise
+        replace(path, text.encode(), 0o644)
     except OSError as error:
         raise End(5, f"{path} could not be written ({error.strerror}), and is as it was; make room for it, or choose another --lock") from None
 
@@ -170,8 +160,6 @@ class Pinned:
         return self.network.beside()
 
     def ahead(self) -> None: ...
-
-    def turn(self, side: str) -> None: ...
 
     def reply(self, frame: Frame, body: Iterable[bytes] = ()) -> tuple[Frame, bytes]:
         if frame["frame"] == "request":

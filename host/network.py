@@ -171,7 +171,7 @@ class Remembered:
 class Network:
     """The connections of a pull. `statuses` has the last one of each URL (as `shown`), `failure` why a request failed last.
 
-    `timeout` is in seconds, to connect and without data; `end` is by the monotonic clock. A document has at most `document` bytes, the
+    `timeout` is in seconds, to connect and without data; `end` is by the monotonic clock, and may be changed by another thread. A document has at most `document` bytes, the
     headers of an answer at most `headers`; `blob` names the blob that comes next if it may be longer than a document.
     """
     curl: pycurl.Curl | None = None
@@ -191,11 +191,9 @@ class Network:
         made.statuses, made.remembered = self.statuses, self.remembered
         return made
 
-    def turn(self, side: str) -> None: ...
-
     def options(self, frame: Frame, place: Place, answer: Answer, upload: Upload | None) -> dict[int, Any]:
         """The options of libcurl for a request."""
-        access, end, late = self.access, self.end, time.monotonic() + 3 * max(1, self.timeout)
+        access, late = self.access, time.monotonic() + 3 * max(1, self.timeout)
         proxy = self.proxy = access.proxy_to(place)
 
         def connect(_: int, address: Any) -> socket.socket:
@@ -207,7 +205,7 @@ class Network:
         def watch(_: float, received: float, __: float, sent: float) -> None:
             """Ends what libcurl does not: it reads all that a proxy sends before a tunnel, without a look at its time-outs, or at signals."""
             now = time.monotonic()
-            if now > end or any(signal.getsignal(number) != signal.SIG_IGN for number in SIGNALS & signal.sigpending()):
+            if now > self.end or any(signal.getsignal(number) != signal.SIG_IGN for number in SIGNALS & signal.sigpending()):
                 raise ValueError("the time of the command is over")
             if now > late and not (received or sent or answer.size):
                 raise ValueError("no answer, and no tunnel of a proxy, came in time")

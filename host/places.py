@@ -55,6 +55,13 @@ def is_public(host: str) -> bool:
     return ip.is_global and not ip.is_multicast and (ip.version == 4 or ip in GLOBAL)
 
 
+def proxy_of(url: str) -> str:
+    """The URL of a proxy. ValueError if a control character is encoded in it: in a user or a password, libcurl then connects without the proxy."""
+    if re.search("%[01][0-9A-Fa-f]", url):
+        raise ValueError("the URL of the proxy has an encoded control character (%00 to %1F); write its user and password without it")
+    return url
+
+
 def repository_of(reference: str) -> str:
     """Registry and repository of a reference, as the core parses it."""
     first, slash, rest = reference.partition("/")
@@ -68,7 +75,7 @@ class Access:
 
     def __init__(self, registry: str, plain: bool, hosts: Iterable[str] = (), authority: Path | None = None,
                  certificate: Path | None = None, private_key: Path | None = None, proxy: str | None = None) -> None:
-        self.registry, self.plain, self.hosts, self.proxy = registry, plain, {host.lower() for host in hosts}, proxy
+        self.registry, self.plain, self.hosts, self.proxy = registry, plain, {host.lower() for host in hosts}, proxy_of(proxy or "")
         self.authority, self.certificate, self.private_key = authority, certificate, private_key
         url = f"{'http' if plain else 'https'}://{'index.' if registry == 'docker.io' else ''}{registry}/v2/"
         self.own = own = place_of(url) if URL.fullmatch(url) else Place("", "", 0, "")  # which the core refuses
@@ -95,7 +102,7 @@ class Access:
     def proxy_to(self, place: Place) -> str:
         """The proxy by which a place is reached, or nothing. The environment's proxy is not used for this machine."""
         if self.proxy or is_loopback(place.host):
-            return self.proxy or ""
+            return self.proxy
         from urllib.request import getproxies, proxy_bypass  # which take a while
         found = {} if proxy_bypass(f"{place.host}:{place.port}") else getproxies()
-        return found.get(place.scheme) or found.get("all") or ""
+        return proxy_of(found.get(place.scheme) or found.get("all") or "")

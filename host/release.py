@@ -3,6 +3,8 @@ import hashlib
 import os
 from pathlib import Path
 
+from host.files import replace
+
 VERSION = "0.1.0"
 TOP = Path(__file__).resolve().parent.parent
 DIST = TOP / "dist"
@@ -40,23 +42,12 @@ def unpacked(name: str, wide: bool | None = None) -> Path:
     digest = listed[listed.index(packed.name) - 1]
     to = Path(os.environ.get("XDG_CACHE_HOME") or Path.home() / ".cache") / "roksnaep" / digest / name
     if not to.exists():
-        import lzma  # which take a while, and only this needs
-        import tempfile
+        import lzma  # which takes a while, and only this needs
         if hashlib.sha256(packed.read_bytes()).hexdigest() != digest:
             raise ValueError(f"{packed} does not have its checksum in SHA256SUMS; restore both: git checkout {DIST}")
         try:
             to.parent.mkdir(mode=0o700, parents=True, exist_ok=True)
-            file = tempfile.NamedTemporaryFile(dir=to.parent, delete=False)
-            try:
-                with file:
-                    file.write(lzma.decompress(packed.read_bytes()))
-                    file.flush()
-                    os.fsync(file.fileno())
-                os.chmod(file.name, 0o755)
-                os.rename(file.name, to)
-            except BaseException:
-                os.unlink(file.name)
-                raise
+            replace(to, lzma.decompress(packed.read_bytes()), 0o755)
         except OSError as error:
             raise OSError(f"{to} could not be written ({error.strerror}); make room for it, or name another folder by XDG_CACHE_HOME") from None
     return to

@@ -11,12 +11,13 @@ import sys
 import time
 import unittest
 import zlib
+from concurrent.futures import ThreadPoolExecutor
 from pathlib import Path
 from unittest import mock
 
 from support import MANIFEST, TOP, WithFolder, digest_of, openssl, registry
 
-from host.admission import LATE, Decider, Deciders, denied, frame_of, logged
+from host.admission import LATE, Decider, Deciders, Turn, denied, frame_of, logged
 
 
 HEAD = b"POST /validate HTTP/1.1\r\nHost: localhost\r\nContent-Type: application/json\r\n"
@@ -100,6 +101,7 @@ class Admission(WithFolder):
                 began = time.monotonic()
                 said = self.post(review_about(f"{place}/app:v1"))[1]
                 self.assertEqual((said["allowed"], said["status"]["message"]), (False, LATE))
+                self.assertGreater(time.monotonic() - began, 0.9)  # since no other one waits
                 self.assertLess(time.monotonic() - began, 2.5)
 
     def test_many_images(self):
@@ -125,7 +127,7 @@ class Admission(WithFolder):
                 for number in range(1, 5):
                     last = number % 2 == 0
                     with self.assertRaisesRegex(ValueError, "did not end") if fake and last else contextlib.nullcontext():
-                        self.assertIn("NoRule", deciders.decide(line, end)[0])
+                        self.assertIn("NoRule", deciders.decide(line, Turn(end))[0])
                     self.assertEqual(hasattr(deciders.own, "decider"), not last)
                     cores += [] if last else [deciders.own.decider.core.process]
                 self.assertEqual([core.returncode for core in cores], [int(fake[-1:] or 0)] * 2)
@@ -135,9 +137,25 @@ class Admission(WithFolder):
         decider.core, decider.rules, decider.connect = mock.Mock(), {"r": mock.Mock()}, lambda *_: mock.Mock()
         decider.core.body.return_value = ()
         decider.core.read.side_effect = lambda: time.sleep(pauses.pop()) or {"frame": "image", "image": "x", "rule": "r"}
-        with mock.patch("host.admission.GRACE", 0.1), self.assertRaisesRegex(TimeoutError, LATE):
-            decider.decide(b"", time.monotonic() + 0.1)
+        with self.assertRaisesRegex(TimeoutError, LATE):
+            decider.decide(b"", Turn(time.monotonic() + 0.2))
         self.assertGreater(len(pauses), 400)
+
+    def test_slow_reviews_have_half_of_the_time_while_others_wait(self):
+        with registry(documents=self.signed(), _manifests_slow=lambda _: time.sleep(30)) as (place, _):
+            with self.webhook([{"images": f"{place}/app", "keys": ["public"]}], "--deadline", "8", "--jobs", "2"), ThreadPoolExecutor(8) as callers:
+                def posted(*names):
+                    began = time.monotonic()
+                    return self.post(review_about(*[f"{place}/app:{name}" for name in names]))[1], time.monotonic() - began
+
+                slow = [callers.submit(posted, *["slow"] * 100) for _ in range(2)]
+                time.sleep(0.5)
+                for said, _ in (caller.result() for caller in [callers.submit(posted, "v1") for _ in range(2)]):
+                    self.assertTrue(said["allowed"], said)
+                for said, seconds in (caller.result() for caller in slow):
+                    self.assertEqual((said["allowed"], said["status"]["message"]), (False, LATE))
+                    self.assertGreater(seconds, 3.9)
+                    self.assertLess(seconds, 6)
 
     def connected(self):
         context = ssl.create_default_context(cafile=self.folder / "tls.crt")
@@ -217,6 +235,31 @@ class Admission(WithFolder):
                     for _ in range(100):
                         connection.sendall(b"GET /healthz HTTP/1.1\r\n\r\n" * 10000)
                 self.assertLess(self.largest() - before, 50)
+
+    def test_requests_for_another_protocol(self):
+        """What comes after one is not held until the response."""
+        with registry(documents=self.signed(), _manifests_v1=lambda h: time.sleep(3)) as (place, _):
+            with self.webhook([{"images": f"{place}/app", "keys": ["public"]}]):
+                body, before = json.dumps(review_about(f"{place}/app:v1")).encode(), self.largest()
+                for head in (HEAD + f"Connection: Upgrade\r\nUpgrade: x\r\nContent-Length: {len(body)}\r\n\r\n".encode() + body,
+                             b"GET /healthz HTTP/1.1\r\nConnection: Upgrade\r\nUpgrade: websocket\r\n\r\n"):
+                    connection = self.connected()
+                    connection.sendall(head)
+                    self.assertIn(b" 400 ", connection.recv(1000))
+                    with self.assertRaises(OSError):
+                        for _ in range(200):
+                            connection.sendall(b"x" * (1 << 20))
+                self.assertLess(self.largest() - before, 20)
+
+    def test_an_aiohttp_that_does_not_say_which_requests_wait(self):
+        """Without this limit nothing is served: if the private name is gone, or something else has it."""
+        (self.folder / "policy.json").write_text(json.dumps({"version": 1, "rules": [{"images": "localhost", "keys": ["public"]}]}))
+        for change in ("Connection.waiting = lambda self: len(self.gone)", "Connection.waiting = lambda self: 0"):
+            self.command = [sys.executable, "-c", f"import sys; sys.path.insert(0, '{TOP}'); from host.admission import Connection; {change}\n"
+                            "from host.command import main; sys.exit(main(sys.argv[1:]))"]
+            status, _, err = self.run_it("admit", "--policy", "policy.json", "--cert", "tls.crt", "--private-key", "tls.key", "--listen", "127.0.0.1:0")
+            self.assertEqual(status, 2)
+            self.assertRegex(err, "^roksnaep: aiohttp [0-9.]+ does not say how many requests wait on a connection, which have to be limited; install ")
 
     def test_malformed_requests_are_lines_of_the_log(self):
         with self.webhook([{"images": "localhost", "keys": ["public"]}]):

@@ -1,5 +1,6 @@
 #!/usr/bin/python3
 """Tests of what is recorded of a search, of which blobs may be long, and of which are kept or read again."""
+import json
 import os
 import unittest
 from unittest import mock
@@ -96,7 +97,7 @@ class Conversation(WithFolder):
 
 
 class LastFrames(WithFolder):
-    def last(self, script, status=0):
+    def last(self, script):
         """The last frame of a core that is this script, and with which status the core ended."""
         path = self.folder / "core"
         path.write_text(f"#!/bin/sh\n{script}\n")
@@ -106,7 +107,7 @@ class LastFrames(WithFolder):
         try:
             frame = core.read()
             try:
-                return core.ended(frame, status), core.process.poll()
+                return core.ended(frame), core.process.poll()
             except ValueError:
                 return None, core.end()
         finally:
@@ -116,7 +117,10 @@ class LastFrames(WithFolder):
         says, frame = "echo '{\"frame\":\"pulled\"}'", {"frame": "pulled"}
         self.assertEqual(self.last(says), (frame, 0))
         self.assertEqual(self.last(f"{says}; exec sleep 0.2"), (frame, 0))
-        self.assertEqual(self.last(f"{says}; exit 1", 1), (frame, 1))
+        for frame, fits in (({"frame": "refused", "report": ""}, 1), ({"frame": "checked", "verdict": "documents"}, 1), ({"frame": "lock", "verdict": "fails"}, 1),
+                            ({"frame": "checked", "verdict": "holds"}, 0), ({"frame": "copied"}, 0), ({"frame": "carried", "digest": "d", "state": "there"}, 0)):
+            for status in (0, 1):
+                self.assertEqual(self.last(f"echo '{json.dumps(frame)}'; exit {status}"), (frame if status == fits else None, status), frame)
         for script, status in ((f"{says}; exit 1", 1), (f"{says}; exit 6", 6), (f"{says}; kill -SEGV $$", -11), (f"{says}; {says}", 0), (f"{says}; head -c 9000000 /dev/zero", -9)):
             with mock.patch("host.core.LEAVES", 1):
                 self.assertEqual(self.last(script), (None, status), script)

@@ -3,6 +3,7 @@
 import base64
 import json
 import os
+import time
 import unittest
 from pathlib import Path
 from unittest import mock
@@ -121,6 +122,24 @@ class Files(WithFolder):
         self.keep(credsStore="hangs")
         with mock.patch("host.credentials.WAIT", 0.2), self.assertRaisesRegex(ValueError, "timed out"):
             credentials("r.io/app", None)
+
+    def test_a_helper_that_writes_without_end(self):
+        self.helper("floods", "yes\n")
+        self.helper("warns", "yes >&2\n")
+        self.helper("much", "echo the store is locked; head -c 1000000 /dev/zero >&2; exit 1\n")
+        self.helper("drips", "while echo x; do sleep 0.1; done\n")
+        self.helper("closes", "exec >&- 2>&-; sleep 20\n")
+        self.keep(credHelpers={f"{name}.io": name for name in ("floods", "warns", "much", "drips", "closes")})
+        began = time.monotonic()
+        for name in ("floods", "warns"):
+            with self.assertRaisesRegex(ValueError, f": docker-credential-{name} writes more than 1048576 bytes, which are not credentials$"):
+                credentials(f"{name}.io/app", None)
+        with self.assertRaisesRegex(ValueError, "failed: the store is locked$"):
+            credentials("much.io/app", None)
+        self.assertLess(time.monotonic() - began, 10)
+        for name in ("drips", "closes"):
+            with mock.patch("host.credentials.WAIT", 0.5), self.assertRaisesRegex(ValueError, "timed out"):
+                credentials(f"{name}.io/app", None)
 
     def test_a_chain_of_a_helper_in_the_command(self):
         with registry() as (place, handler):

@@ -12,7 +12,8 @@ from unittest import mock
 from support import CONFIG, IMAGE, LAYERS, MANIFEST, TOP, WithFolder, digest_of, manifest_of, registry
 
 import host.layout
-from host.checks import fits, refusal
+from host.checks import refusal
+from host.core import fits
 from host.layout import Layout, Stored
 from host.refusals import Refusals
 

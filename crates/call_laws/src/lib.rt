@@ -1,2 +1,3 @@
-//! What every run of the rows of streams shows. There is no code here.
+//! Properties of every run of the rows of streams, of lists, of `blob_exists`, and of a pull of blobs into sinks. This
+//! crate has definitions and laws, and no code.
 #![tactic(auto)]

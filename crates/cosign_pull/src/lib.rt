@@ -1,5 +1,5 @@
-//! The pull of the image that a digest names, its documents and its blobs, and the pull of an image only if a trusted
-//! signature stands for it, by any client of registries.
+//! The search for signatures, and the pull of an image, or of its documents alone, only if a trusted signature stands
+//! for it, by any client of registries.
 #![tactic(auto)]
 
 mod again;

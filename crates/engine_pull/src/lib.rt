@@ -1,4 +1,5 @@
-//! The calls of the registry client that pull documents, blobs and images.
+//! The registry client's calls that pull documents, blobs and images, and those that ask what a registry has: its
+//! repositories, their tags, the referrers of a digest, and whether a blob exists.
 #![tactic(auto)]
 
 mod addresses;

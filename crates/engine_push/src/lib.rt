@@ -1,5 +1,5 @@
-//! Pushes of blobs: uploads in chunks or whole, of bytes in memory or from a source that gives them piece by piece; and
-//! the request of any push.
+//! Pushes of blobs, of manifests, of indexes and of whole images: uploads in chunks or whole, of bytes in memory or
+//! from a source that gives them piece by piece; and the request of any push.
 #![tactic(auto)]
 
 mod bytes;

@@ -36,8 +36,8 @@ pub enum SpecViolation {
     Status { expected: u16, got: u16, url: Text },
 }
 
-/// Why a call of the registry client was refused. A refusal about a response holds the URL or the bytes that it came
-/// with.
+/// Why a call of the registry client was refused. Bytes in a variant are those of the response or the document that was
+/// refused, and a URL is that of its request.
 #[derive(Debug, Drop)]
 pub enum OciDistributionError {
     /// The document parses both as a manifest and as an index.

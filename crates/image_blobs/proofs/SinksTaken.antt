@@ -14,7 +14,7 @@ use Rattle.request_laws.proofs.DocumentAnswers.{body_after}
 use Rattle.call_laws.specs.Cut.{size_of}
 use Rattle.call_laws.specs.Taken.{IsBlobOf}
 use Rattle.image_blobs.specs.SinksState.{Closed, SinksState, Closes, closing}
-use Rattle.image_blobs.specs.Taken.{AddsWithin, IsFront, IsFrontOrNone, Stands, Falls, EachStands, MayFall, TookAll, TookSome, TookBlobs}
+use Rattle.image_blobs.specs.Taken.{AddsWithin, IsPrefixOfBody, IsPrefixOrNone, Stands, Falls, EachStands, MayFall, TookAll, TookSome, TookBlobs}
 
 -- ---- exchanges before and after
 
@@ -27,11 +27,11 @@ blob_before c d x bytes h = record { names = h.names; within = h.within; body = 
 blob_after : (c d : List Exchange) (x : OciDescriptor) (bytes : List ℕ) → IsBlobOf d x bytes → IsBlobOf (c ++ d) x bytes
 blob_after c d x bytes h = record { names = h.names; within = h.within; body = body_after c h.body }
 
-front_after : (c d : List Exchange) (bytes : List ℕ) → IsFrontOrNone d bytes → IsFrontOrNone (c ++ d) bytes
+front_after : (c d : List Exchange) (bytes : List ℕ) → IsPrefixOrNone d bytes → IsPrefixOrNone (c ++ d) bytes
 front_after c d bytes (inl none) = inl none
 front_after c d bytes (inr h) = inr (record { whole = h.whole; left = h.left; body = body_after c h.body; split = h.split })
 
-front_of : (c : List Exchange) (bytes : List ℕ) → IsPrefix bytes c → IsFrontOrNone c bytes
+front_of : (c : List Exchange) (bytes : List ℕ) → IsPrefix bytes c → IsPrefixOrNone c bytes
 front_of c bytes (inl none) = inl none
 front_of c bytes (inr h) = inr (record { whole = h.answer.body; left = h.left; body = record { before = h.before; exchange = h.last; after = []; split = h.split; answer = h.answer; answered = h.answered; body = refl }; split = h.body })
 

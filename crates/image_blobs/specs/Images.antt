@@ -1,4 +1,5 @@
--- The image that documents and the blobs of their descriptors are: sinks that took the blobs of one range after another.
+-- The image that documents and the blobs of their descriptors are: sinks that took the blobs of one range after
+-- another.
 use Rattle.std.specs.Prelude.{◌≡◌, ◌≤◌, ◌<◌, ℕ, List, [], ◌∷◌, length, Option, Ok, Contains}
 use Rattle.byte_streams.specs.SinkState.{SinkState, Adds}
 use Rattle.oci_manifests.specs.declared.descriptor.OciDescriptor.{OciDescriptor}

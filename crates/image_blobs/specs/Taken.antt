@@ -29,14 +29,14 @@ use Rattle.image_blobs.specs.SinksState.{Closed, SinksState, Closes}
 -- ---- one blob
 
 -- the bytes are a prefix of the body of a response, or there are none
-pub record IsFront (c : List Exchange) (bytes : List ℕ) : Type 0 where
+pub record IsPrefixOfBody (c : List Exchange) (bytes : List ℕ) : Type 0 where
   pub whole : List ℕ
   pub left : List ℕ
   pub body : Body c whole
   pub split : whole ≡ bytes ++ left
 
-abbrev pub IsFrontOrNone : List Exchange → List ℕ → Type 0
-IsFrontOrNone c bytes = (bytes ≡ []) ⊎ IsFront c bytes
+abbrev pub IsPrefixOrNone : List Exchange → List ℕ → Type 0
+IsPrefixOrNone c bytes = (bytes ≡ []) ⊎ IsPrefixOfBody c bytes
 
 -- at most `limit` bytes were appended, if the sink exposes its bytes
 pub record AddsWithin (limit : ℕ) (old new : SinkState) : Type 0 where
@@ -60,7 +60,7 @@ pub record Falls (fresh : SinkState) (c : List Exchange) (x : OciDescriptor) (z 
   pub bytes : List ℕ
   pub took : Adds bytes fresh z.sink
   pub within : length bytes ≤ size_of x
-  pub front : IsFrontOrNone c bytes
+  pub front : IsPrefixOrNone c bytes
 
 -- ---- all blobs of a call
 
@@ -70,7 +70,7 @@ EachStands fresh c [] [] = Unit {0}
 EachStands fresh c (x ∷ xs) (z ∷ zs) = Stands fresh c x z × EachStands fresh c xs zs
 EachStands fresh c xs zs = ⊥
 
--- at most one more sink was opened, for the next descriptor
+-- at most one more sink was closed, that of the next descriptor
 abbrev pub MayFall : SinkState → List Exchange → List OciDescriptor → List Closed → Type 0
 MayFall fresh c xs [] = Unit {0}
 MayFall fresh c (x ∷ xs) (z ∷ []) = Falls fresh c x z

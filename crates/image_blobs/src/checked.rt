@@ -1,6 +1,7 @@
 // Bytes that are held to a descriptor.
-ghost use Rattle.std.specs.Prelude.{◌≡◌, ◌<◌, IfOk, length, vec_len};
-ghost use Rattle.image_blobs.specs.Checked.{Checks, IsDigesterOf, ReadsBlob};
+ghost use Rattle.std.specs.Prelude.{◌≡◌, ◌<◌, ◌+◌, IfOk, length, vec_len};
+ghost use Rattle.call_laws.specs.Cut.{size_of};
+ghost use Rattle.image_blobs.specs.Checked.{Checks, DecidesAll, IsDigesterOf, ReadsBlob, TakesWithin};
 
 use byte_streams::{Failed, Source};
 use engine_terms::OciDistributionError;
@@ -33,7 +34,7 @@ pub fn digester_of(alloc: Global, digest: &str) -> Result<Option<Digester>, Allo
 }
 
 // Reads a source to its end, piece by piece in this room, and hashes its bytes; returns whether it has `size` bytes.
-// Stops as soon as more were read.
+// Stops as soon as more were read, so that it reads at most one room more.
 fn hashed<S: Source>(
     source: &mut S,
     size: u64,
@@ -41,7 +42,8 @@ fn hashed<S: Source>(
     room: &mut [u8],
 ) -> Result<bool, OciDistributionError>
     requires { 0 < length room.now }
-    ensures { ReadsBlob size digester.old digester.new (S.state source.old) (S.state source.new) result }
+    ensures reads { ReadsBlob size digester.old digester.new (S.state source.old) (S.state source.new) result }
+    ensures most { TakesWithin (size + length room.old) (S.state source.old) (S.state source.new) }
 {
     let mut left = size;
     loop {
@@ -60,16 +62,14 @@ fn hashed<S: Source>(
     }
 }
 
-/// Returns whether the bytes of a source are a descriptor's blob: they have its size, and its digest names them. Reads
-/// at most one piece after as many bytes as the descriptor states.
-///
-/// Returns `SourceFault` if the source failed: its fault count increases then.
-pub fn check_blob<S: Source>(
+// Reads the bytes of a source, and returns whether they are a descriptor's blob.
+fn is_blob<S: Source>(
     alloc: Global,
     source: &mut S,
     descriptor: &OciDescriptor,
 ) -> Result<bool, OciDistributionError>
-    ensures { Checks descriptor.now (S.state source.old) (S.state source.new) result }
+    ensures checks { Checks descriptor.now (S.state source.old) (S.state source.new) result }
+    ensures most { TakesWithin (size_of descriptor.now + 65536) (S.state source.old) (S.state source.new) }
 {
     if descriptor.size < 0 {
         return Ok(false);
@@ -84,4 +84,20 @@ pub fn check_blob<S: Source>(
     }
     let text = digester.finalize(alloc)?;
     Ok(text.as_str() == descriptor.digest.as_str())
+}
+
+/// Returns whether the bytes of a source are a descriptor's blob: they have its size, and its digest names them. Reads
+/// at most one piece, of at most 65536 bytes, after as many bytes as the descriptor states.
+///
+/// Returns `SourceFault` if the source failed: its fault count increases then.
+pub fn check_blob<S: Source>(
+    alloc: Global,
+    source: &mut S,
+    descriptor: &OciDescriptor,
+) -> Result<bool, OciDistributionError>
+    ensures checks { Checks descriptor.now (S.state source.old) (S.state source.new) result }
+    ensures blob { IfOk result (DecidesAll descriptor.now (S.state source.old)) }
+    ensures most { TakesWithin (size_of descriptor.now + 65536) (S.state source.old) (S.state source.new) }
+{
+    is_blob(alloc, source, descriptor)
 }

@@ -1,4 +1,5 @@
-//! Documents read from JSON by tables, and written so that their tables read them back.
+//! JSON documents that are read by tables, and written so that their tables read them again; and whether a text is an
+//! object with given members only.
 #![tactic(auto)]
 
 mod blobs;

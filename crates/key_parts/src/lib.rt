@@ -1,4 +1,5 @@
-//! Kinds of keys, the schemes under which they sign, and the trait that makes keys and signs with them.
+//! Kinds of keys, the schemes under which they sign, the traits of the crates above, and the envelope of an encrypted
+//! private key.
 #![tactic(auto)]
 
 mod base64_text;

@@ -1,5 +1,5 @@
 -- The clients of the rules, and the states in which they are.
-use Rattle.std.proofs.Common.{◌≡◌, ◌<◌, ◌≤◌, ◌+◌, ℕ, zero, suc, true, false, Bool, List, [], ◌∷◌, ◌++◌, length, drop, slice_index_or, slice_set, Option, Some, None, Result, Ok, Err, refl, sym, ap, ◌∙◌, subst, append_assoc, append-nil}
+use Rattle.std.proofs.Common.{◌≡◌, ◌<◌, ◌≤◌, ◌+◌, ℕ, zero, suc, true, false, Bool, List, [], ◌∷◌, ◌++◌, length, drop, slice_index_or, slice_set, Option, Some, None, Result, Ok, Err, refl, sym, ap, ◌∙◌, subst, append_assoc, append-nil, inl, inr}
 use Rattle.std.proofs.lemmas.List.{drop_all, drop_more}
 use Rattle.std.specs.FinMap.{get-empty}
 use Rattle.json_values.specs.Places.{by_bytes}
@@ -22,19 +22,23 @@ use Rattle.live_admit.specs.declared.rule.Rule.{Rule}
 use Rattle.pod_reviews.specs.declared.verdict.Denial.TheVariants.{NotAReference, NoRule}
 use Rattle.pod_reviews.specs.declared.verdict.Verdict.{Verdict}
 use Rattle.pod_reviews.specs.declared.verdict.Verdict.TheVariants.{Denied}
+use Rattle.live_host.specs.HostErrors.{TellCause}
 use Rattle.live_host.specs.Wire.{Wire, SendsFrame}
+use Rattle.live_host.specs.declared.streams.HostError.{HostError}
 use Rattle.live_pull.specs.Pulls.{client_settings}
 use Rattle.live_pull.specs.declared.settings.LiveSettings.{LiveSettings}
 use Rattle.live_pull.specs.declared.status.Status.{Status}
-use Rattle.live_pull.specs.Decided.{EndsEarly, Suits}
+use Rattle.live_pull.specs.Decided.{Suits, UndecidedFrom}
+use Rattle.live_pull.specs.Status.{status_of}
 use Rattle.live_pull.specs.Keeping.{IsWithin, StoresOnly}
 use Rattle.live_pull.proofs.Keeping.{decided_stores, decided_within}
 use Rattle.live_pull.proofs.Logs.{course_logged}
-use Rattle.live_admit.specs.Clients.{AreIn, ClientState, GivesOr, IsIn, Leads, LeadsOne, States, client_bounds, new_state, new_states, nothing_kept}
-use Rattle.live_admit.specs.Decided.{ByReference, ByRule, DecidedBy, Gives, ImageDecided, UnderRule}
+use Rattle.live_admit.specs.Clients.{AreIn, ClientState, Gives, IsIn, Leads, LeadsOne, States, client_bounds, new_state, new_states, nothing_kept}
+use Rattle.live_admit.specs.Decided.{ByReference, ByRule, DecidedBy, ImageCut, ImageDecided, UnderRule, UnderRuleCut}
 use Rattle.live_admit.specs.Frames.{image_head}
 use Rattle.live_admit.specs.Settings.{Rules, settings_for}
 use Rattle.live_admit.specs.declared.clients.RuleClient.{RuleClient}
+use Rattle.live_admit.proofs.Ends.{by_host, cause_as, never_cut}
 
 -- ---- the client of the first rule that covers a place
 
@@ -75,10 +79,11 @@ kept_of c s is = ap (λ (x : Settings). let shown : Shown = record { settings = 
 -- a decision by the settings of a rule and by its client
 pub under_rule : (held left_held : Rule RuleClient) (settings : LiveSettings) (moment : ℕ) (image : List ℕ) (verdict : Result Verdict Status) (old told_at new : Wire)
     → SendsFrame (image_head image held.images) [] old told_at → settings ≡ settings_for held.settings.settings image moment
-    → (Suits settings held.settings.client → Gives (λ v. DecidedBy settings (client_state held.settings.client).kept (client_state left_held.settings.client).kept v told_at new) verdict new)
+    → (Suits settings held.settings.client → Gives (λ v. DecidedBy settings (client_state held.settings.client).kept (client_state left_held.settings.client).kept v told_at new)
+    (λ e. UndecidedFrom settings (client_state held.settings.client).kept (client_state left_held.settings.client).kept e told_at new) verdict)
     → (client_state left_held.settings.client).settings ≡ (client_state held.settings.client).settings → left_held.settings.client.rekor_pub_keys ≡ held.settings.client.rekor_pub_keys
     → left_held.images ≡ held.images → left_held.settings.settings ≡ held.settings.settings
-    → LeadsOne held left_held (λ before left v. UnderRule before left moment image v old new) verdict new
+    → LeadsOne held left_held (λ before left v. UnderRule before left moment image v old new) (λ before e. UnderRuleCut before moment image e old new) verdict
 under_rule held left_held settings moment image verdict old told_at new told by decided same_settings same_logs same_images same_rule = λ before is. given before is verdict (decided (suits before is)) where
   by_state : (before : Rule ClientState) → IsIn held before → settings ≡ settings_for before.settings.settings image moment
   by_state before is = by ∙ ap (λ (s : LiveSettings). settings_for s image moment) is.settings
@@ -89,9 +94,22 @@ under_rule held left_held settings moment image verdict old told_at new told by 
     is.log_keys ∙ ap (λ (s : LiveSettings). s.log_keys) (sym (by_state before is)),
   )
 
-  given : (before : Rule ClientState) → IsIn held before → (verdict : Result Verdict Status) → Gives (λ v. DecidedBy settings (client_state held.settings.client).kept (client_state left_held.settings.client).kept v told_at new) verdict new
-      → GivesOr EndsEarly (λ v. (left : ClientState) × IsIn left_held (record before { settings = left }) × UnderRule before left moment image v old new) verdict new
-  given before is (Err s) h = h
+  told_by : (before : Rule ClientState) → IsIn held before → SendsFrame (image_head image before.images) [] old told_at
+  told_by before is = subst (λ (images : List ℕ). SendsFrame (image_head image images) [] old told_at) is.images told
+
+  undecided_by : (before : Rule ClientState) (e : HostError) → IsIn held before → UndecidedFrom settings (client_state held.settings.client).kept (client_state left_held.settings.client).kept e told_at new
+      → UndecidedFrom (settings_for before.settings.settings image moment) before.settings.kept (client_state left_held.settings.client).kept e told_at new
+  undecided_by before e is cut =
+      subst (λ (k : Kept). UndecidedFrom (settings_for before.settings.settings image moment) k (client_state left_held.settings.client).kept e told_at new) (ap (λ (c : Shown). c.kept) is.client)
+      (subst (λ (s : LiveSettings). UndecidedFrom s (client_state held.settings.client).kept (client_state left_held.settings.client).kept e told_at new) (by_state before is) cut)
+
+  given : (before : Rule ClientState) → IsIn held before → (verdict : Result Verdict Status)
+      → Gives (λ v. DecidedBy settings (client_state held.settings.client).kept (client_state left_held.settings.client).kept v told_at new)
+      (λ e. UndecidedFrom settings (client_state held.settings.client).kept (client_state left_held.settings.client).kept e told_at new) verdict
+      → Gives (λ v. (left : ClientState) × IsIn left_held (record before { settings = left }) × UnderRule before left moment image v old new) (λ e. UnderRuleCut before moment image e old new) verdict
+  given before is (Err s) h =
+      cause_as (λ e. UndecidedFrom settings (client_state held.settings.client).kept (client_state left_held.settings.client).kept e told_at new) (λ e. UnderRuleCut before moment image e old new) s
+      (λ e cut. inr (record { told_at = told_at; told = told_by before is; left = (client_state left_held.settings.client).kept; undecided = undecided_by before e is cut })) h
   given before is (Ok v) h =
       let own = before.settings in
       let kept : Kept = (client_state left_held.settings.client).kept in
@@ -115,7 +133,7 @@ under_rule held left_held settings moment image verdict old told_at new told by 
         },
         record {
           told_at = told_at;
-          told = subst (λ (images : List ℕ). SendsFrame (image_head image images) [] old told_at) is.images told;
+          told = told_by before is;
           decided = here;
           settings = refl;
           logged = logged;
@@ -125,16 +143,25 @@ under_rule held left_held settings moment image verdict old told_at new told by 
         },
       )
 
+-- the host was not told the image
+pub untold : (held left_held : Rule RuleClient) (moment : ℕ) (image : List ℕ) (e : HostError) (old new : Wire) → TellCause (image_head image held.images, []) e old new
+    → LeadsOne {A = Verdict} held left_held (λ before left v. UnderRule before left moment image v old new) (λ before e. UnderRuleCut before moment image e old new) (Err (status_of e))
+untold held left_held moment image e old new cause = λ before is.
+    by_host (λ e. UnderRuleCut before moment image e old new) e (inl (subst (λ (images : List ℕ). TellCause (image_head image images, []) e old new) is.images cause))
+
 -- ---- among the rules
 
 -- by the client at this index, which is of the first rule that covers the place
 pub led : (helds : List (Rule RuleClient)) (at : ℕ) (reference : Reference) (moment : ℕ) (image : List ℕ) (held left_held : Rule RuleClient) (verdict : Result Verdict Status) (old new : Wire)
-    → IsFirstAt helds (place_of reference) at → held ≡ slice_index_or helds at held → LeadsOne held left_held (λ before left v. UnderRule before left moment image v old new) verdict new
-    → Leads EndsEarly helds (slice_set helds at left_held) (λ before after v. ByRule (rule_for before reference) (place_of reference) before after moment image v old new) verdict new
-led helds at reference moment image held left_held (Err s) old new first item one = λ before are.
+    → IsFirstAt helds (place_of reference) at → reference_of image ≡ Ok reference → held ≡ slice_index_or helds at held
+    → LeadsOne held left_held (λ before left v. UnderRule before left moment image v old new) (λ before e. UnderRuleCut before moment image e old new) verdict
+    → Leads helds (slice_set helds at left_held) (λ before after v. ByRule (rule_for before reference) (place_of reference) before after moment image v old new) (λ before e. ImageCut before moment image e old new) verdict
+led helds at reference moment image held left_held (Err s) old new first reads item one = λ before are.
     let found = finds helds before (place_of reference) at held are first in
-    one found.state (subst (λ (x : Rule RuleClient). IsIn x found.state) (sym item) found.is_in)
-led helds at reference moment image held left_held (Ok v) old new first item one = λ before are.
+    cause_as (λ e. UnderRuleCut found.state moment image e old new) (λ e. ImageCut before moment image e old new) s
+    (λ e cut. record { reference = reference; reads = reads; rule = found.state; covers = found.found; cut = cut })
+    (one found.state (subst (λ (x : Rule RuleClient). IsIn x found.state) (sym item) found.is_in))
+led helds at reference moment image held left_held (Ok v) old new first reads item one = λ before are.
     let found = finds helds before (place_of reference) at held are first in
     let given = one found.state (subst (λ (x : Rule RuleClient). IsIn x found.state) (sym item) found.is_in) in
     let after = with_first before (place_of reference) given.0 in (
@@ -145,7 +172,7 @@ led helds at reference moment image held left_held (Ok v) old new first item one
 
 -- an image under no rule
 pub led_none : (helds : List (Rule RuleClient)) (reference : Reference) (moment : ℕ) (image : List ℕ) (old : Wire) → rule_for helds reference ≡ None
-    → Leads EndsEarly helds helds (λ before after v. ByRule (rule_for before reference) (place_of reference) before after moment image v old old) (Ok (Denied NoRule)) old
+    → Leads helds helds (λ before after v. ByRule (rule_for before reference) (place_of reference) before after moment image v old old) (λ before e. ImageCut before moment image e old old) (Ok (Denied NoRule))
 led_none helds reference moment image old none = λ before are. (
   before,
   are,
@@ -154,21 +181,17 @@ led_none helds reference moment image old none = λ before are. (
 
 -- a text that is not a reference
 pub led_no_reference : (helds : List (Rule RuleClient)) (moment : ℕ) (image : List ℕ) (e : ParseError) (verdict : Result Verdict Status) (old new : Wire) → reference_of image ≡ Err e
-    → Gives (λ v. (v ≡ Denied (NotAReference image)) × (old ≡ new)) verdict new → Leads EndsEarly helds helds (λ before after v. ImageDecided before after moment image v old new) verdict new
+    → Gives (λ v. (v ≡ Denied (NotAReference image)) × (old ≡ new)) (λ e. ⊥) verdict → Leads helds helds (λ before after v. ImageDecided before after moment image v old new) (λ before e. ImageCut before moment image e old new) verdict
 led_no_reference helds moment image e (Ok v) old new is denied = λ before are.
     (before, are, subst (λ (r : Result Reference ParseError). ByReference r before before moment image v old new) (sym is) (denied.0, refl, denied.1))
-led_no_reference helds moment image e (Err s) old new is denied = λ before are. denied
+led_no_reference helds moment image e (Err s) old new is denied = λ before are. never_cut (λ e. ImageCut before moment image e old new) s denied
 
 -- a text that is one
 pub led_reference : (olds news : List (Rule RuleClient)) (reference : Reference) (moment : ℕ) (image : List ℕ) (verdict : Result Verdict Status) (old new : Wire) → reference_of image ≡ Ok reference
-    → Leads EndsEarly olds news (λ before after v. ByRule (rule_for before reference) (place_of reference) before after moment image v old new) verdict new
-    → Leads EndsEarly olds news (λ before after v. ImageDecided before after moment image v old new) verdict new
+    → Leads olds news (λ before after v. ByRule (rule_for before reference) (place_of reference) before after moment image v old new) (λ before e. ImageCut before moment image e old new) verdict
+    → Leads olds news (λ before after v. ImageDecided before after moment image v old new) (λ before e. ImageCut before moment image e old new) verdict
 led_reference olds news reference moment image verdict old new is led =
-    subst (λ (r : Result Reference ParseError). Leads EndsEarly olds news (λ before after v. ByReference r before after moment image v old new) verdict new) (sym is) led
-
--- an early end
-pub led_early : {A : Type 0} (P : States → States → A → Type 0) (olds news : List (Rule RuleClient)) (s : Status) (new : Wire) → EndsEarly s new → Leads EndsEarly olds news P (Err s) new
-led_early P olds news s new early = λ before are. early
+    subst (λ (r : Result Reference ParseError). Leads olds news (λ before after v. ByReference r before after moment image v old new) (λ before e. ImageCut before moment image e old new) verdict) (sym is) led
 
 -- ---- new clients
 

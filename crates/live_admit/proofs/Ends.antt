@@ -1,41 +1,49 @@
--- Why a conversation ends early.
+-- Why a review is not served.
 use Rattle.std.proofs.Common.{◌≡◌, inl, inr, Result, Ok, Err, IsErr, sym, subst}
 use Rattle.std.specs.Prelude.{IfErr, IsErrAnd}
 use Rattle.serde_json.specs.Data.{Data}
-use Rattle.live_host.specs.HostErrors.{HostCause}
+use Rattle.live_host.specs.HostErrors.{HearCause}
 use Rattle.live_host.specs.Wire.{Wire, ReceivesFrame}
 use Rattle.live_host.specs.declared.streams.HostError.{HostError}
 use Rattle.live_host.specs.declared.streams.HostError.TheVariants as host
-use Rattle.live_pull.specs.Status.{status_of}
+use Rattle.live_pull.specs.Status.{StatusCause, status_of}
 use Rattle.live_pull.specs.declared.status.Status.{Status}
 use Rattle.live_pull.specs.declared.status.Status.TheVariants as status
-use Rattle.live_pull.specs.Decided.{EndsEarly}
-use Rattle.live_admit.specs.Served.{ReadsReview, Stopped}
+use Rattle.live_admit.specs.Served.{ReadsReview, ReceiveCut}
 
-pub host_early : (e : HostError) (new : Wire) → HostCause e new → EndsEarly (status_of e) new
-host_early host.Broken new cause = cause
-host_early host.Unwritten new cause = cause
-host_early host.WantOfMemory new cause = tt
+-- a frame that was not sent or received, with its cause
+pub by_host : (Cut : HostError → Type 0) (e : HostError) → Cut e → StatusCause Cut (status_of e)
+by_host Cut host.Broken cut = cut
+by_host Cut host.Unwritten cut = cut
+by_host Cut host.WantOfMemory cut = tt
 
-pub early_stops : (s : Status) (new : Wire) → EndsEarly s new → Stopped s new
-early_stops status.Pulled new h = absurd h
-early_stops status.Refused new h = absurd h
-early_stops status.UnreadableSettings new h = absurd h
-early_stops status.HostBroken new h = inl h
-early_stops status.SinkFault new h = h
-early_stops status.WantOfMemory new h = tt
+-- what follows from each cause
+pub cause_as : (Cut Other : HostError → Type 0) (s : Status) → ((e : HostError) → Cut e → Other e) → StatusCause Cut s → StatusCause Other s
+cause_as Cut Other status.Pulled f h = absurd h
+cause_as Cut Other status.Refused f h = absurd h
+cause_as Cut Other status.UnreadableSettings f h = absurd h
+cause_as Cut Other status.HostBroken f h = f host.Broken h
+cause_as Cut Other status.SinkFault f h = f host.Unwritten h
+cause_as Cut Other status.WantOfMemory f h = tt
 
-pub host_stops : (e : HostError) (new : Wire) → HostCause e new → Stopped (status_of e) new
-host_stops e new cause = early_stops (status_of e) new (host_early e new cause)
+-- nothing breaks the streams
+pub never_cut : (Cut : HostError → Type 0) (s : Status) → StatusCause (λ e. ⊥) s → StatusCause Cut s
+never_cut Cut s h = cause_as (λ e. ⊥) Cut s (λ e none. absurd none) h
 
--- a frame that is not a review
-pub unread_stops : (s : Status) (d : Data) (old new : Wire) → ReceivesFrame d old new → ReadsReview (Err s) d → Stopped s new
-unread_stops status.Pulled d old new heard is = absurd is
-unread_stops status.Refused d old new heard is = absurd is
-unread_stops status.UnreadableSettings d old new heard is = absurd is
-unread_stops status.HostBroken d old new heard is = inr (old, d, heard, is)
-unread_stops status.SinkFault d old new heard is = absurd is
-unread_stops status.WantOfMemory d old new heard is = tt
+-- no frame was received
+pub unheard : (e : HostError) (old new : Wire) → HearCause e old new → StatusCause (λ e. ReceiveCut e old new) (status_of e)
+unheard host.Broken old new cause = inl cause
+unheard host.Unwritten old new cause = absurd cause
+unheard host.WantOfMemory old new cause = tt
+
+-- a frame was received that is not a review
+pub unread : (s : Status) (d : Data) (old new : Wire) → ReceivesFrame d old new → ReadsReview (Err s) d → StatusCause (λ e. ReceiveCut e old new) s
+unread status.Pulled d old new heard is = absurd is
+unread status.Refused d old new heard is = absurd is
+unread status.UnreadableSettings d old new heard is = absurd is
+unread status.HostBroken d old new heard is = inr (d, heard, is)
+unread status.SinkFault d old new heard is = absurd is
+unread status.WantOfMemory d old new heard is = tt
 
 -- a status that `?` passes on
 pub passed_on : {X : Type 0} (P : Status → Type 0) (r : Result X Status) (s : Status) → P s → (IsErr r × IsErrAnd r (λ y. y ≡ s)) → IfErr r P

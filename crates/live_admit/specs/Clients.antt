@@ -7,12 +7,12 @@ use Rattle.registry_calls.specs.Clients.{Kept, none_kept}
 use Rattle.registry_calls.specs.Log.{LoggedCall, IsRun, IsBacked}
 use Rattle.cosign_client.specs.State.{client_state}
 use Rattle.live_admit.specs.declared.rule.Rule.{Rule}
-use Rattle.live_host.specs.Wire.{Wire}
+use Rattle.live_host.specs.declared.streams.HostError.{HostError}
 use Rattle.live_pull.specs.Pulls.{client_settings}
 use Rattle.live_pull.specs.declared.settings.LiveSettings.{LiveSettings}
 use Rattle.live_pull.specs.declared.status.Status.{Status}
-use Rattle.live_pull.specs.Decided.{EndsEarly}
 use Rattle.live_pull.specs.Keeping.{IsWithin, StoresOnly}
+use Rattle.live_pull.specs.Status.{StatusCause}
 use Rattle.live_admit.specs.Settings.{Rules}
 use Rattle.live_admit.specs.declared.clients.RuleClient.{RuleClient}
 
@@ -50,7 +50,8 @@ new_states rules = map new_state rules
 -- ---- the clients of the program
 
 -- This client is in this state. The responses of its calls are of calls that were made in full less than 60 seconds
--- before (`IsRun`), and so is what it has cached (`IsBacked`), within the bounds; it stores no credentials but the rule's.
+-- before (`IsRun`), and so is what it has cached (`IsBacked`), within the bounds; it stores no credentials but the
+-- rule's.
 pub record IsIn (held : Rule RuleClient) (state : Rule ClientState) : Type 0 where
   pub images : held.images ≡ state.images
   pub settings : held.settings.settings ≡ state.settings.settings
@@ -68,21 +69,21 @@ AreIn [] (state ∷ states) = ⊥
 AreIn (held ∷ helds) [] = ⊥
 AreIn (held ∷ helds) (state ∷ states) = IsIn held state × AreIn helds states
 
--- a value with a property, or why the conversation ended
-abbrev pub GivesOr : {A : Type 0} → (Status → Wire → Type 0) → (A → Type 0) → Result A Status → Wire → Type 0
-GivesOr Ends P (Ok x) new = P x
-GivesOr Ends P (Err s) new = Ends s new
+-- a value with a property; or why there is none, by what broke the streams
+abbrev pub Gives : {A : Type 0} → (A → Type 0) → (HostError → Type 0) → Result A Status → Type 0
+Gives P Cut (Ok x) = P x
+Gives P Cut (Err s) = StatusCause Cut s
 
--- From each state in which these clients are: a value for which `P` holds of that state and of the one in which they are
--- then; or the conversation ended.
-abbrev pub Leads : {A : Type 0} → (Status → Wire → Type 0) → List (Rule RuleClient) → List (Rule RuleClient)
-    → (States → States → A → Type 0) → Result A Status → Wire → Type 0
-Leads Ends old_clients new_clients P result new = (before : States) → AreIn old_clients before
-    → GivesOr Ends (λ x. (after : States) × AreIn new_clients after × P before after x) result new
+-- From each state in which these clients are: a value for which `P` holds of that state and of the one in which they
+-- are then; or why there is none, for which `Cut` holds of that state.
+abbrev pub Leads : {A : Type 0} → List (Rule RuleClient) → List (Rule RuleClient)
+    → (States → States → A → Type 0) → (States → HostError → Type 0) → Result A Status → Type 0
+Leads old_clients new_clients P Cut result = (before : States) → AreIn old_clients before
+    → Gives (λ x. (after : States) × AreIn new_clients after × P before after x) (Cut before) result
 
 -- the same of one of them, which is left in a state
-abbrev pub LeadsOne : {A : Type 0} → Rule RuleClient → Rule RuleClient → (Rule ClientState → ClientState → A → Type 0)
-    → Result A Status → Wire → Type 0
-LeadsOne old_client new_client P result new = (before : Rule ClientState) → IsIn old_client before
-    → GivesOr EndsEarly (λ x. (left : ClientState) × IsIn new_client (record before { settings = left })
-    × P before left x) result new
+abbrev pub LeadsOne : {A : Type 0} → Rule RuleClient → Rule RuleClient
+    → (Rule ClientState → ClientState → A → Type 0) → (Rule ClientState → HostError → Type 0) → Result A Status → Type 0
+LeadsOne old_client new_client P Cut result = (before : Rule ClientState) → IsIn old_client before
+    → Gives (λ x. (left : ClientState) × IsIn new_client (record before { settings = left }) × P before left x)
+    (Cut before) result

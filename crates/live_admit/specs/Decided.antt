@@ -1,5 +1,5 @@
 -- How the images of a review are decided.
-use Rattle.std.specs.Prelude.{◌≡◌, ℕ, false, List, [], ◌∷◌, ◌++◌, Option, Some, None, Result, Ok, Err}
+use Rattle.std.specs.Prelude.{◌≡◌, ◌⊎◌, ℕ, false, List, [], ◌∷◌, ◌++◌, Option, Some, None, Result, Ok, Err}
 use Rattle.oci_names.specs.Reference.{reference_of}
 use Rattle.oci_names.specs.declared.parse_error.ParseError.{ParseError}
 use Rattle.oci_names.specs.declared.reference.Reference.{Reference}
@@ -16,14 +16,15 @@ use Rattle.pod_reviews.specs.declared.places.PlacedImage.{PlacedImage}
 use Rattle.pod_reviews.specs.declared.verdict.Denial.TheVariants.{NotAReference, NoRule, Refused}
 use Rattle.pod_reviews.specs.declared.verdict.Verdict.{Verdict}
 use Rattle.pod_reviews.specs.declared.verdict.Verdict.TheVariants.{Allowed, Denied}
+use Rattle.live_host.specs.HostErrors.{TellCause}
 use Rattle.live_host.specs.Wire.{Wire, SendsFrame}
+use Rattle.live_host.specs.declared.streams.HostError.{HostError}
 use Rattle.live_pull.specs.Pulls.{client_settings}
 use Rattle.live_pull.specs.declared.settings.LiveSettings.{LiveSettings}
-use Rattle.live_pull.specs.declared.status.Status.{Status}
 use Rattle.live_pull.specs.Course.{exchanges_of}
-use Rattle.live_pull.specs.Decided.{DecidedFrom, EndsEarly}
+use Rattle.live_pull.specs.Decided.{DecidedFrom, UndecidedFrom}
 use Rattle.live_pull.specs.Keeping.{IsWithin, StoresOnly}
-use Rattle.live_admit.specs.Clients.{ClientState, States, GivesOr, client_bounds}
+use Rattle.live_admit.specs.Clients.{ClientState, States, client_bounds}
 use Rattle.live_admit.specs.Frames.{image_head}
 use Rattle.live_admit.specs.Settings.{settings_for}
 
@@ -82,8 +83,38 @@ ImagesDecided before after moment (x ∷ xs) [] old new = ⊥
 ImagesDecided before after moment (x ∷ xs) (v ∷ vs) old new = (mid : States) × (between : Wire)
     × ImageDecided before mid moment x.image v old between × ImagesDecided mid after moment xs vs between new
 
--- ---- ends
+-- ---- not to the end
 
--- a value, or an early end
-abbrev pub Gives : {A : Type 0} → (A → Type 0) → Result A Status → Wire → Type 0
-Gives P r new = GivesOr EndsEarly P r new
+-- the host was told the image and its rule, and then nothing was decided by the rule's settings and the rule's client
+pub record DecisionCut (rule : Rule ClientState) (moment : ℕ) (image : List ℕ) (e : HostError) (old new : Wire)
+    : Type 0 where
+  pub told_at : Wire
+  pub told : SendsFrame (image_head image rule.images) [] old told_at
+  pub left : Kept
+  pub undecided : UndecidedFrom (settings_for rule.settings.settings image moment) rule.settings.kept left e told_at new
+
+-- why an image was not decided under a rule: the host was not told, or nothing was decided
+abbrev pub UnderRuleCut : Rule ClientState → ℕ → List ℕ → HostError → Wire → Wire → Type 0
+UnderRuleCut rule moment image e old new =
+    TellCause (image_head image rule.images, []) e old new ⊎ DecisionCut rule moment image e old new
+
+-- why an image was not decided: it has a rule that covers it, and was not decided under the first one that does
+pub record ImageCut (before : States) (moment : ℕ) (image : List ℕ) (e : HostError) (old new : Wire) : Type 0 where
+  pub reference : Reference
+  pub reads : reference_of image ≡ Ok reference
+  pub rule : Rule ClientState
+  pub covers : rule_for before reference ≡ Some rule
+  pub cut : UnderRuleCut rule moment image e old new
+
+-- some images were decided, one after another, and then one was not
+pub record ImagesCut (before : States) (moment : ℕ) (images : List PlacedImage) (e : HostError) (old new : Wire)
+    : Type 0 where
+  pub done : List PlacedImage
+  pub next : PlacedImage
+  pub rest : List PlacedImage
+  pub are : images ≡ done ++ next ∷ rest
+  pub verdicts : List Verdict
+  pub mid : States
+  pub decided_at : Wire
+  pub decided : ImagesDecided before mid moment done verdicts old decided_at
+  pub cut : ImageCut mid moment next.image e decided_at new

@@ -1,18 +1,20 @@
 -- Reviews that were served.
-use Rattle.std.specs.Prelude.{◌≡◌, ◌⊎◌, ℕ, zero, suc, Bool, List, [], Option, Some, None, Result, Ok, Err, ⊤}
+use Rattle.std.specs.Prelude.{◌≡◌, ◌<◌, ◌⊎◌, ℕ, zero, suc, Bool, List, [], Option, Some, None, Result, Ok, Err}
 use Rattle.serde_json.specs.Data.{Data}
 use Rattle.json_tables.specs.Plain.{read_plain}
 use Rattle.pod_reviews.specs.Places.{pod_review_of}
 use Rattle.pod_reviews.specs.Verdicts.{Responds}
 use Rattle.pod_reviews.specs.declared.pod.PodReview.{PodReview}
 use Rattle.pod_reviews.specs.declared.verdict.Verdict.{Verdict}
-use Rattle.live_host.specs.HostErrors.{IsBroken, IsUnwritten}
-use Rattle.live_host.specs.Wire.{Wire, ReceivesFrame, SendsFrame}
+use Rattle.live_host.specs.HostErrors.{TellCause}
+use Rattle.live_host.specs.Wire.{Wire, ReceivesFrame, ReceivesNone, SendsFrame}
+use Rattle.live_host.specs.declared.streams.HostError.{HostError}
+use Rattle.live_host.specs.declared.streams.HostError.TheVariants as host
+use Rattle.live_pull.specs.Status.{StatusCause}
 use Rattle.live_pull.specs.declared.status.Status.{Status}
 use Rattle.live_pull.specs.declared.status.Status.TheVariants as status
-use Rattle.live_pull.specs.Decided.{EndsEarly}
 use Rattle.live_admit.specs.Clients.{States, new_states}
-use Rattle.live_admit.specs.Decided.{ImagesDecided}
+use Rattle.live_admit.specs.Decided.{ImagesCut, ImagesDecided}
 use Rattle.live_admit.specs.Frames.{response_head, review_frame_of, unreadable_head}
 use Rattle.live_admit.specs.Settings.{Rules}
 use Rattle.live_admit.specs.declared.frames.ReviewFrame.{ReviewFrame}
@@ -46,23 +48,64 @@ ReviewsServed before after zero old new = (before ≡ after) × (old ≡ new)
 ReviewsServed before after (suc n) old new = (mid : States) × (between : Wire)
     × ReviewsServed before mid n old between × Served mid after between new
 
--- a frame was received that is not a review
-abbrev pub ReceivesNoReview : Wire → Type 0
-ReceivesNoReview new = (old : Wire) × (d : Data) × ReceivesFrame d old new × (review_frame_of d ≡ None)
+-- ---- not to the end
 
--- why the conversation ended before the last review; out of memory guarantees nothing
-abbrev pub Stopped : Status → Wire → Type 0
-Stopped status.Pulled new = ⊥
-Stopped status.Refused new = ⊥
-Stopped status.UnreadableSettings new = ⊥
-Stopped status.HostBroken new = IsBroken new ⊎ ReceivesNoReview new
-Stopped status.SinkFault new = IsUnwritten new
-Stopped status.WantOfMemory new = Unit {0}
+-- no frame was received, or one that is not a review
+abbrev pub ReceivesNoReview : Wire → Wire → Type 0
+ReceivesNoReview old new = ReceivesNone old new
+    ⊎ ((d : Data) × ReceivesFrame d old new × (review_frame_of d ≡ None))
 
--- by the status, after so many reviews: these were all, or the conversation ended early
-abbrev pub EndsAfter : ℕ → ℕ → Status → Wire → Wire → Type 0
-EndsAfter reviews n status.Pulled mid new = (n ≡ reviews) × (mid ≡ new)
-EndsAfter reviews n other mid new = Stopped other new
+-- why no review was received
+abbrev pub ReceiveCut : HostError → Wire → Wire → Type 0
+ReceiveCut host.Broken old new = ReceivesNoReview old new
+ReceiveCut host.Unwritten old new = ⊥
+ReceiveCut host.WantOfMemory old new = Unit {0}
+
+-- the response of these verdicts was not sent
+abbrev pub ResponseCut : Bool → PodReview → List Verdict → HostError → Wire → Wire → Type 0
+ResponseCut mutate review verdicts e old new =
+    (text : List ℕ) × Responds mutate review verdicts text × TellCause (response_head text, []) e old new
+
+-- all images of a review were decided, and the response of the verdicts was not sent
+pub record ImagesDecidedAndCut (before : States) (frame : ReviewFrame) (review : PodReview) (e : HostError)
+    (old new : Wire) : Type 0 where
+  pub decided_at : Wire
+  pub after : States
+  pub verdicts : List Verdict
+  pub decided : ImagesDecided before after frame.moment review.images verdicts old decided_at
+  pub cut : ResponseCut frame.mutate review verdicts e decided_at new
+
+-- why a review has no response: an image was not decided, or the response was not sent
+abbrev pub RespondedCut : States → ReviewFrame → PodReview → HostError → Wire → Wire → Type 0
+RespondedCut before frame review e old new =
+    ImagesCut before frame.moment review.images e old new ⊎ ImagesDecidedAndCut before frame review e old new
+
+-- why a frame was not answered, by what its text parses as
+abbrev pub AnsweredCut : States → ReviewFrame → Option PodReview → HostError → Wire → Wire → Type 0
+AnsweredCut before frame None e old new = TellCause (unreadable_head, []) e old new
+AnsweredCut before frame (Some review) e old new = RespondedCut before frame review e old new
+
+-- a review was received, and not answered
+pub record ReviewUnanswered (before : States) (e : HostError) (old new : Wire) : Type 0 where
+  pub heard_at : Wire
+  pub head : Data
+  pub heard : ReceivesFrame head old heard_at
+  pub frame : ReviewFrame
+  pub reads : review_frame_of head ≡ Some frame
+  pub cut : AnsweredCut before frame (read_plain pod_review_of frame.review) e heard_at new
+
+-- why a review was not served: none was received, or it was not answered
+abbrev pub ReviewCut : States → HostError → Wire → Wire → Type 0
+ReviewCut before e old new = ReceiveCut e old new ⊎ ReviewUnanswered before e old new
+
+-- ---- all reviews
+
+-- By the status, after so many reviews, which left the clients in these states: these were all; or they were fewer, and
+-- the next one was not served. Out of memory guarantees nothing.
+abbrev pub EndsAfter : ℕ → ℕ → States → Status → Wire → Wire → Type 0
+EndsAfter reviews n left status.Pulled mid new = (n ≡ reviews) × (mid ≡ new)
+EndsAfter reviews n left status.WantOfMemory mid new = Unit {0}
+EndsAfter reviews n left other mid new = (n < reviews) × StatusCause (λ e. ReviewCut left e mid new) other
 
 -- some reviews were served by clients in these states, and then the conversation ended
 pub record ServesFrom (before : States) (reviews : ℕ) (s : Status) (old new : Wire) : Type 0 where
@@ -70,7 +113,7 @@ pub record ServesFrom (before : States) (reviews : ℕ) (s : Status) (old new : 
   pub served_at : Wire
   pub left : States
   pub served : ReviewsServed before left count old served_at
-  pub ends : EndsAfter reviews count s served_at new
+  pub ends : EndsAfter reviews count left s served_at new
 
 -- the same by a new client for each rule
 abbrev pub Serves : Rules → ℕ → Status → Wire → Wire → Type 0
@@ -96,8 +139,3 @@ ReceivesReview frame old new = (d : Data) × ReceivesFrame d old new × (review_
 abbrev pub ResponseTold : Bool → PodReview → List Verdict → Wire → Wire → Type 0
 ResponseTold mutate review verdicts old new =
     (text : List ℕ) × Responds mutate review verdicts text × SendsFrame (response_head text) [] old new
-
--- a fact, or an early end
-abbrev pub Done : Type 0 → Result ⊤ Status → Wire → Type 0
-Done P (Ok done) new = P
-Done P (Err s) new = EndsEarly s new

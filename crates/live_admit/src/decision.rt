@@ -3,8 +3,9 @@ ghost use Rattle.std.specs.Prelude.{◌≡◌};
 ghost use Rattle.cosign_client.specs.State.{client_state};
 ghost use Rattle.live_host.specs.Wire.{wire};
 ghost use Rattle.live_pull.specs.Settings.{IsReady};
-ghost use Rattle.live_pull.specs.Decided.{Suits};
-ghost use Rattle.live_admit.specs.Decided.{DecidedBy, Gives, VerdictOf};
+ghost use Rattle.live_pull.specs.Decided.{Suits, UndecidedFrom};
+ghost use Rattle.live_admit.specs.Clients.{Gives};
+ghost use Rattle.live_admit.specs.Decided.{DecidedBy, VerdictOf};
 
 use crate::outcome::verdict_of;
 use byte_streams::{Sink, Source};
@@ -32,7 +33,7 @@ fn judge_outcome<S: Source, K: Sink>(
     outcome: Result<VerifiedDocuments, PullRefusal>,
 ) -> Judged<S, K>
     ensures streams { result.streams ≡ streams }
-    ensures verdict { Gives (VerdictOf outcome) result.verdict (wire S.state K.state result.streams) }
+    ensures verdict { Gives (VerdictOf outcome) (λ e. ⊥) result.verdict }
 {
     let verdict = verdict_of(alloc, &outcome);
     drop_outcome(outcome);
@@ -50,7 +51,8 @@ pub(crate) fn decide<S: Source, K: Sink>(
     ensures verdict { Suits settings client.old → Gives (λ v. DecidedBy settings
         (client_state client.old).kept (client_state client.new).kept v
         (wire S.state K.state streams) (wire S.state K.state result.streams))
-        result.verdict (wire S.state K.state result.streams) }
+        (λ e. UndecidedFrom settings (client_state client.old).kept (client_state client.new).kept e
+        (wire S.state K.state streams) (wire S.state K.state result.streams)) result.verdict }
     ensures settings { (client_state client.new).settings ≡ (client_state client.old).settings }
     ensures log_keys { client.new.rekor_pub_keys ≡ client.old.rekor_pub_keys }
 {

@@ -5,11 +5,10 @@ ghost use Rattle.live_admit.specs.Covering.{place_of};
 ghost use Rattle.live_admit.specs.Rules.{rule_for, IsFirstAt};
 ghost use Rattle.pod_reviews.specs.declared.verdict.Denial.TheVariants.{NotAReference};
 ghost use Rattle.pod_reviews.specs.declared.verdict.Verdict.TheVariants.{Denied};
-ghost use Rattle.live_host.specs.HostErrors.{HostCause};
+ghost use Rattle.live_host.specs.HostErrors.{TellCause};
 ghost use Rattle.live_host.specs.Wire.{wire, SendsFrame};
-ghost use Rattle.live_pull.specs.Decided.{EndsEarly};
-ghost use Rattle.live_admit.specs.Clients.{Leads, LeadsOne};
-ghost use Rattle.live_admit.specs.Decided.{ByRule, Gives, ImageDecided, UnderRule};
+ghost use Rattle.live_admit.specs.Clients.{Gives, Leads, LeadsOne};
+ghost use Rattle.live_admit.specs.Decided.{ByRule, ImageCut, ImageDecided, UnderRule, UnderRuleCut};
 ghost use Rattle.live_admit.specs.Frames.{image_head as head_of_image};
 
 use crate::clients::RuleClient;
@@ -34,7 +33,8 @@ fn tell_image<S: Source, K: Sink>(
 ) -> Result<(), HostError>
     ensures told { OnOk result (SendsFrame (head_of_image image.now rule.now) []
         (wire S.state K.state streams.old) (wire S.state K.state streams.new)) }
-    ensures cause { IfErr result (λ e. HostCause e (wire S.state K.state streams.new)) }
+    ensures cause { IfErr result (λ e. TellCause (head_of_image image.now rule.now, []) e
+        (wire S.state K.state streams.old) (wire S.state K.state streams.new)) }
 {
     let head = image_head(alloc, image, rule)?;
     tell(alloc, streams, &head, &[])?;
@@ -61,7 +61,8 @@ fn decide_under<S: Source, K: Sink>(
     requires { IsOk (reference_of image.now) }
     ensures { LeadsOne rule.old rule.new (λ before left v. UnderRule before left moment image.now v
         (wire S.state K.state streams) (wire S.state K.state result.streams))
-        result.verdict (wire S.state K.state result.streams) }
+        (λ before e. UnderRuleCut before moment image.now e
+        (wire S.state K.state streams) (wire S.state K.state result.streams)) result.verdict }
 {
     let mut streams = streams;
     if let Err(error) = tell_image(alloc, &mut streams, image, &rule.images) {
@@ -85,10 +86,11 @@ fn decide_at<S: Source, K: Sink>(
 ) -> Judged<S, K>
     requires first { IsFirstAt rules.old.items (place_of reference.now) at }
     requires reads { reference_of image.now ≡ Ok reference.now }
-    ensures { Leads EndsEarly rules.old.items rules.new.items (λ before after v.
+    ensures { Leads rules.old.items rules.new.items (λ before after v.
         ByRule (rule_for before reference.now) (place_of reference.now) before after moment image.now v
         (wire S.state K.state streams) (wire S.state K.state result.streams))
-        result.verdict (wire S.state K.state result.streams) }
+        (λ before e. ImageCut before moment image.now e
+        (wire S.state K.state streams) (wire S.state K.state result.streams)) result.verdict }
 {
     match rules.get_mut(at) {
         Some(rule) => decide_under(alloc, streams, rule, moment, image),
@@ -115,10 +117,11 @@ fn decide_reference<S: Source, K: Sink>(
     reference: &Reference,
 ) -> Judged<S, K>
     requires { reference_of image.now ≡ Ok reference.now }
-    ensures { Leads EndsEarly rules.old.items rules.new.items (λ before after v.
+    ensures { Leads rules.old.items rules.new.items (λ before after v.
         ByRule (rule_for before reference.now) (place_of reference.now) before after moment image.now v
         (wire S.state K.state streams) (wire S.state K.state result.streams))
-        result.verdict (wire S.state K.state result.streams) }
+        (λ before e. ImageCut before moment image.now e
+        (wire S.state K.state streams) (wire S.state K.state result.streams)) result.verdict }
 {
     match index_for(alloc, rules.as_slice(), reference) {
         Ok(Some(at)) => decide_at(alloc, streams, rules, at, moment, image, reference),
@@ -134,8 +137,7 @@ fn deny_text<S: Source, K: Sink>(
     image: &Text,
 ) -> Judged<S, K>
     ensures { Gives (λ v. (v ≡ Denied (NotAReference image.now))
-        × (wire S.state K.state streams ≡ wire S.state K.state result.streams))
-        result.verdict (wire S.state K.state result.streams) }
+        × (wire S.state K.state streams ≡ wire S.state K.state result.streams)) (λ e. ⊥) result.verdict }
 {
     match image.copy(alloc) {
         Ok(text) => deny(streams, Denial::NotAReference(text)),
@@ -143,8 +145,8 @@ fn deny_text<S: Source, K: Sink>(
     }
 }
 
-/// Decides about an image under the first rule that covers it, by this rule's client. Nothing is sent for a text that is
-/// not a reference, nor without a rule.
+/// Decides about an image under the first rule that covers it, by this rule's client. Nothing is sent for a text that
+/// is not a reference, nor without a rule.
 pub(crate) fn decide_image<S: Source, K: Sink>(
     alloc: Global,
     streams: Streams<S, K>,
@@ -152,10 +154,11 @@ pub(crate) fn decide_image<S: Source, K: Sink>(
     moment: u64,
     image: &Text,
 ) -> Judged<S, K>
-    ensures { Leads EndsEarly rules.old.items rules.new.items (λ before after v.
+    ensures { Leads rules.old.items rules.new.items (λ before after v.
         ImageDecided before after moment image.now v
         (wire S.state K.state streams) (wire S.state K.state result.streams))
-        result.verdict (wire S.state K.state result.streams) }
+        (λ before e. ImageCut before moment image.now e
+        (wire S.state K.state streams) (wire S.state K.state result.streams)) result.verdict }
 {
     match Reference::parse(alloc, image.as_str()) {
         Ok(reference) => decide_reference(alloc, streams, rules, moment, image, &reference),

@@ -1,9 +1,8 @@
 // The decisions about the images of a review.
 ghost use Rattle.std.specs.Prelude.{◌≡◌, Err, IfOk, length};
 ghost use Rattle.live_host.specs.Wire.{wire};
-ghost use Rattle.live_pull.specs.Decided.{EndsEarly};
 ghost use Rattle.live_admit.specs.Clients.{Leads};
-ghost use Rattle.live_admit.specs.Decided.{ImagesDecided};
+ghost use Rattle.live_admit.specs.Decided.{ImagesCut, ImagesDecided};
 
 use crate::Rule;
 use crate::clients::RuleClient;
@@ -40,10 +39,11 @@ pub(crate) fn decide_images<S: Source, K: Sink>(
     moment: u64,
     images: &[PlacedImage],
 ) -> AllJudged<S, K>
-    ensures decided { Leads EndsEarly rules.old.items rules.new.items (λ before after vs.
+    ensures decided { Leads rules.old.items rules.new.items (λ before after vs.
         ImagesDecided before after moment images.now vs
         (wire S.state K.state streams) (wire S.state K.state result.streams))
-        result.verdicts (wire S.state K.state result.streams) }
+        (λ before e. ImagesCut before moment images.now e
+        (wire S.state K.state streams) (wire S.state K.state result.streams)) result.verdicts }
     ensures each { IfOk result.verdicts (λ vs. length vs ≡ length images.now) }
 {
     let mut verdicts = List::new(alloc);

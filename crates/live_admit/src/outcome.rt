@@ -1,8 +1,8 @@
 // The verdict that a decision about documents leads to.
 ghost use Rattle.std.specs.Prelude.{◌≡◌, Err, IfOk};
 ghost use Rattle.pull_report.specs.Prints.{refusal_print};
-ghost use Rattle.live_host.specs.Wire.{Wire};
-ghost use Rattle.live_admit.specs.Decided.{Gives, VerdictOf};
+ghost use Rattle.live_admit.specs.Clients.{Gives};
+ghost use Rattle.live_admit.specs.Decided.{VerdictOf};
 
 use cosign_chain::VerifiedDocuments;
 use cosign_client::PullRefusal;
@@ -54,7 +54,7 @@ pub(crate) fn verdict_of(
     alloc: Global,
     outcome: &Result<VerifiedDocuments, PullRefusal>,
 ) -> Result<Verdict, Status>
-    ensures { (end : Wire) → Gives (VerdictOf outcome.now) result end }
+    ensures { Gives (VerdictOf outcome.now) (λ e. ⊥) result }
 {
     let Ok(verdict) = judge(alloc, outcome) else {
         return Err(Status::WantOfMemory);

@@ -2,12 +2,13 @@
 ghost use Rattle.std.specs.Prelude.{◌≡◌, IfErr, IfOk, OnOk, length, []};
 ghost use Rattle.json_tables.specs.Plain.{read_plain};
 ghost use Rattle.pod_reviews.specs.Places.{pod_review_of};
+ghost use Rattle.live_host.specs.HostErrors.{TellCause};
 ghost use Rattle.live_host.specs.Wire.{wire, SendsFrame};
-ghost use Rattle.live_pull.specs.Decided.{EndsEarly};
+ghost use Rattle.live_pull.specs.Status.{StatusCause};
 ghost use Rattle.live_admit.specs.Frames.{unreadable_head as head_of_none};
-ghost use Rattle.live_admit.specs.Clients.{Leads};
-ghost use Rattle.live_admit.specs.Served.{Answered, Done, ReadsReview, ReceivesReview, Responded};
-ghost use Rattle.live_admit.specs.Served.{ResponseTold, Served, Stopped};
+ghost use Rattle.live_admit.specs.Clients.{Gives, Leads};
+ghost use Rattle.live_admit.specs.Served.{Answered, AnsweredCut, ReadsReview, ReceiveCut, ReceivesReview, Responded};
+ghost use Rattle.live_admit.specs.Served.{RespondedCut, ResponseCut, ResponseTold, ReviewCut, Served};
 
 use crate::Rule;
 use crate::clients::RuleClient;
@@ -54,7 +55,8 @@ fn receive<S: Source, K: Sink>(
 ) -> Result<ReviewFrame, Status>
     ensures received { IfOk result (λ frame. ReceivesReview frame
         (wire S.state K.state streams.old) (wire S.state K.state streams.new)) }
-    ensures cause { IfErr result (λ status. Stopped status (wire S.state K.state streams.new)) }
+    ensures cause { IfErr result (λ status. StatusCause (λ e. ReceiveCut e
+        (wire S.state K.state streams.old) (wire S.state K.state streams.new)) status) }
 {
     let frame = hear(alloc, streams)?;
     let review = frame_in(alloc, &frame)?;
@@ -72,7 +74,8 @@ fn give_response<S: Source, K: Sink>(
     requires { length verdicts.now ≡ length review.now.images }
     ensures told { OnOk result (ResponseTold mutate review.now verdicts.now
         (wire S.state K.state streams.old) (wire S.state K.state streams.new)) }
-    ensures cause { IfErr result (λ status. EndsEarly status (wire S.state K.state streams.new)) }
+    ensures cause { IfErr result (λ status. StatusCause (λ e. ResponseCut mutate review.now verdicts.now e
+        (wire S.state K.state streams.old) (wire S.state K.state streams.new)) status) }
 {
     let text = respond_verdicts(alloc, review, verdicts, mutate)?;
     let head = response_head(alloc, &text)?;
@@ -87,7 +90,8 @@ fn give_unreadable<S: Source, K: Sink>(
 ) -> Result<(), Status>
     ensures told { OnOk result (SendsFrame head_of_none []
         (wire S.state K.state streams.old) (wire S.state K.state streams.new)) }
-    ensures cause { IfErr result (λ status. EndsEarly status (wire S.state K.state streams.new)) }
+    ensures cause { IfErr result (λ status. StatusCause (λ e. TellCause (head_of_none, []) e
+        (wire S.state K.state streams.old) (wire S.state K.state streams.new)) status) }
 {
     let head = unreadable_head(alloc)?;
     tell(alloc, streams, &head, &[])?;
@@ -103,9 +107,10 @@ fn respond<S: Source, K: Sink>(
     verdicts: &List<Verdict>,
 ) -> Step<S, K>
     requires { length verdicts.now ≡ length review.now.images }
-    ensures { Done (ResponseTold mutate review.now verdicts.now
+    ensures { Gives (λ done. ResponseTold mutate review.now verdicts.now
         (wire S.state K.state streams) (wire S.state K.state result.streams))
-        result.outcome (wire S.state K.state result.streams) }
+        (λ e. ResponseCut mutate review.now verdicts.now e
+        (wire S.state K.state streams) (wire S.state K.state result.streams)) result.outcome }
 {
     let mut streams = streams;
     let outcome = give_response(alloc, &mut streams, mutate, review, verdicts);
@@ -120,10 +125,11 @@ fn answer_review<S: Source, K: Sink>(
     frame: &ReviewFrame,
     review: &PodReview,
 ) -> Step<S, K>
-    ensures { Leads EndsEarly rules.old.items rules.new.items (λ before after done.
+    ensures { Leads rules.old.items rules.new.items (λ before after done.
         Responded before after frame.now review.now
         (wire S.state K.state streams) (wire S.state K.state result.streams))
-        result.outcome (wire S.state K.state result.streams) }
+        (λ before e. RespondedCut before frame.now review.now e
+        (wire S.state K.state streams) (wire S.state K.state result.streams)) result.outcome }
 {
     let AllJudged { streams, verdicts } = decide_images(
         alloc,
@@ -140,9 +146,10 @@ fn answer_review<S: Source, K: Sink>(
 
 // What a text that is not a review is answered with.
 fn answer_none<S: Source, K: Sink>(alloc: Global, streams: Streams<S, K>) -> Step<S, K>
-    ensures { Done (SendsFrame head_of_none []
+    ensures { Gives (λ done. SendsFrame head_of_none []
         (wire S.state K.state streams) (wire S.state K.state result.streams))
-        result.outcome (wire S.state K.state result.streams) }
+        (λ e. TellCause (head_of_none, []) e
+        (wire S.state K.state streams) (wire S.state K.state result.streams)) result.outcome }
 {
     let mut streams = streams;
     let outcome = give_unreadable(alloc, &mut streams);
@@ -156,10 +163,11 @@ fn answer<S: Source, K: Sink>(
     rules: &mut Vec<Rule<RuleClient>>,
     frame: &ReviewFrame,
 ) -> Step<S, K>
-    ensures { Leads EndsEarly rules.old.items rules.new.items (λ before after done.
+    ensures { Leads rules.old.items rules.new.items (λ before after done.
         Answered before after frame.now (read_plain pod_review_of frame.now.review)
         (wire S.state K.state streams) (wire S.state K.state result.streams))
-        result.outcome (wire S.state K.state result.streams) }
+        (λ before e. AnsweredCut before frame.now (read_plain pod_review_of frame.now.review) e
+        (wire S.state K.state streams) (wire S.state K.state result.streams)) result.outcome }
 {
     match read_pod_review(alloc, frame.review.as_str().as_bytes()) {
         Ok(Some(review)) => answer_review(alloc, streams, rules, frame, &review),
@@ -174,10 +182,11 @@ pub(crate) fn serve_review<S: Source, K: Sink>(
     streams: Streams<S, K>,
     rules: &mut Vec<Rule<RuleClient>>,
 ) -> Step<S, K>
-    ensures { Leads Stopped rules.old.items rules.new.items (λ before after done.
+    ensures { Leads rules.old.items rules.new.items (λ before after done.
         Served before after
         (wire S.state K.state streams) (wire S.state K.state result.streams))
-        result.outcome (wire S.state K.state result.streams) }
+        (λ before e. ReviewCut before e
+        (wire S.state K.state streams) (wire S.state K.state result.streams)) result.outcome }
 {
     let mut streams = streams;
     match receive(alloc, &mut streams) {

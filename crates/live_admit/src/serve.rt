@@ -68,9 +68,9 @@ fn serve_opened<S: Source, K: Sink>(
 
 /// Serves admission reviews after a frame `admit` was received: receives one frame `review` after another, decides
 /// about each image of the review under the first rule that covers it, as the frame `documents` does, and sends the
-/// response, until as many reviews were served as the settings say. Each rule has one client, which caches responses
-/// within bounds: what a search requested less than 60 seconds before is not requested again while it is cached. Returns the exit status
-/// and the streams.
+/// response, until as many reviews were served as the settings say, or something broke the streams. Each rule has one
+/// client, which caches responses within bounds: what a search requested less than 60 seconds before is not requested
+/// again while it is cached. Returns the exit status and the streams.
 pub fn serve_admit<S: Source, K: Sink>(
     alloc: Global,
     streams: Streams<S, K>,

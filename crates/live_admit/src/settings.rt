@@ -17,8 +17,8 @@ use std::alloc::{AllocError, Global};
 pub struct AdmitSettings {
     /// How many reviews come before the program ends.
     pub reviews: u64,
-    /// The first rule that covers an image counts. The images under it are decided by its settings, the frame `settings`,
-    /// of which the reference, the moment and `blobs` play no role.
+    /// The first rule that covers an image counts. The images under it are decided by its settings, the frame
+    /// `settings`, of which the reference, the moment and `blobs` play no role.
     pub rules: List<Rule<LiveSettings>>,
 }
 

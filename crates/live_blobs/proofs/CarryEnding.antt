@@ -5,21 +5,18 @@ use Rattle.oci_auth.specs.declared.auth_state.AuthState.{AuthState}
 use Rattle.oci_engine.specs.Kept.{auth_state_of}
 use Rattle.oci_names.specs.declared.reference.Reference.{Reference}
 use Rattle.engine_terms.specs.Contexts.{Context, within}
-use Rattle.engine_terms.specs.Error.{is_memory}
 use Rattle.engine_terms.specs.declared.error.OciDistributionError.{OciDistributionError}
 use Rattle.push_rows.specs.declared.responses.PushBlobStreamChunkedResponse.{PushBlobStreamChunkedResponse}
-use Rattle.live_host.specs.HostErrors.{HostCause}
 use Rattle.live_host.specs.Wire.{Wire}
 use Rattle.live_host.specs.declared.streams.HostError.{HostError}
-use Rattle.live_host.specs.declared.streams.HostError.TheVariants as host
-use Rattle.live_pull.specs.Status.{status_of}
 use Rattle.live_pull.specs.declared.status.Status.{Status}
-use Rattle.live_pull.specs.declared.status.Status.TheVariants as status
 use Rattle.live_blobs.specs.Carrying.{Asks, Carried, Compares, Lacked, Pushes, Unless}
-use Rattle.live_blobs.specs.CarryEnds.{CarriedAndTold, CarryEnds, CarryTold, Delivers, EndsBy, LiveCarry}
+use Rattle.live_blobs.specs.CarryEnds.{CarriedAndCut, CarriedAndTold, CarriedBy, CarryCut, CarryEnds, CarryTold, Delivers, Giving, LiveCarry, LiveCarryBy, LiveCarryCut}
 use Rattle.live_blobs.specs.CarryOpening.{Opens}
+use Rattle.live_blobs.specs.Ends.{EndsBy, IsKept}
 use Rattle.live_blobs.specs.declared.carry_opening.Opened.{Opened}
 use Rattle.live_blobs.specs.declared.carry_settings.CarrySettings.{CarrySettings}
+use Rattle.live_blobs.proofs.Delivered.{ends_as}
 
 -- ---- the course
 
@@ -45,41 +42,31 @@ lacked s into digest k left before after old at new (Err e) asked h = λ kept. i
 
 -- ---- what is sent
 
--- a consequence of each result is a consequence of the end
-ends_as : (P Q : Result Bool OciDistributionError → Type 0) (s : Status) (new : Wire) → ((r : Result Bool OciDistributionError) → P r → Q r) → EndsBy P s new → EndsBy Q s new
-ends_as P Q status.Pulled new f h = (h.0, f (Ok h.0) h.1)
-ends_as P Q status.Refused new f h = (h.0, h.1, f (Err h.0) h.2)
-ends_as P Q status.UnreadableSettings new f h = absurd h
-ends_as P Q status.HostBroken new f h = h
-ends_as P Q status.SinkFault new f h = h
-ends_as P Q status.WantOfMemory new f h = tt
-
-pub host_tells : (digest : List ℕ) (r : Result Bool OciDistributionError) (e : HostError) (old new : Wire) → HostCause e new → Delivers digest r (status_of e) old new
-host_tells digest r host.Broken old new cause = cause
-host_tells digest r host.Unwritten old new cause = cause
-host_tells digest r host.WantOfMemory old new cause = tt
+unless : {A : Type 0} (P : Result A OciDistributionError → Type 0) (r : Result A OciDistributionError) → IsKept r → Unless P r → P r
+unless P (Ok a) kept h = h
+unless P (Err e) kept h = h kept
 
 module _ (s : Context) (into : Reference) (digest : List ℕ) (k : AuthState) (before after : SourceState) (old at new : Wire) where
-  told_with : (r y : Result Bool OciDistributionError) → Carried s into digest k r before after old at → (y ≡ r) × CarryTold digest y at new → CarriedAndTold s into digest k before after old new y
-  told_with r y carried h = record { carried_at = at; carried = subst (λ (z : Result Bool OciDistributionError). Carried s into digest k z before after old at) (sym h.0) carried; told = h.1 }
+  carried_by : (Gives : Giving) (r : Result Bool OciDistributionError) → IsKept r → Unless (λ y. Carried s into digest k y before after old at) r → Gives r at new → CarriedBy Gives s into digest k before after old new r
+  carried_by Gives r kept carried given = record { carried_at = at; carried = unless (λ y. Carried s into digest k y before after old at) r kept carried; given = given }
 
-  ends_refused : (e : OciDistributionError) (status : Status) → (is_memory e ≡ false → Carried s into digest k (Err e) before after old at) → Delivers digest (Err e) status at new → EndsBy (CarriedAndTold s into digest k before after old new) status new
-  ends_refused e status.Pulled carried h = absurd (cc (h.1).0)
-  ends_refused e status.Refused carried h =
-      let same : h.0 ≡ e = cc (h.2).0 in
-      (h.0, h.1, told_with (Err e) (Err h.0) (carried (subst (λ (y : OciDistributionError). is_memory y ≡ false) same h.1)) h.2)
-  ends_refused e status.UnreadableSettings carried h = absurd h
-  ends_refused e status.HostBroken carried h = h
-  ends_refused e status.SinkFault carried h = h
-  ends_refused e status.WantOfMemory carried h = tt
+  pub delivered : (status : Status) (r : Result Bool OciDistributionError) → Unless (λ y. Carried s into digest k y before after old at) r → Delivers digest r status at new
+      → EndsBy (CarriedAndTold s into digest k before after old new) (λ e. CarriedAndCut s into digest k before after e old new) status
+  delivered status r carried ends = ends_as {P = λ x. (x ≡ r) × CarryTold digest x at new} {Q = CarriedAndTold s into digest k before after old new} {C = λ e. IsKept r × CarryCut digest r e at new} {D = λ e. CarriedAndCut s into digest k before after e old new} status told cut ends where
+    told : (x : Result Bool OciDistributionError) → IsKept x → (x ≡ r) × CarryTold digest x at new → CarriedAndTold s into digest k before after old new x
+    told x kept h = carried_by (CarryTold digest) x kept (subst (λ (z : Result Bool OciDistributionError). Unless (λ y. Carried s into digest k y before after old at) z) (sym h.0) carried) h.1
 
-  pub delivered : (status : Status) (r : Result Bool OciDistributionError) → Unless (λ y. Carried s into digest k y before after old at) r → Delivers digest r status at new → EndsBy (CarriedAndTold s into digest k before after old new) status new
-  delivered status (Ok pushed) carried h = ends_as (λ y. (y ≡ Ok pushed) × CarryTold digest y at new) (CarriedAndTold s into digest k before after old new) status new (λ y told. told_with (Ok pushed) y carried told) h
-  delivered status (Err e) carried h = ends_refused e status carried h
+    cut : (e : HostError) → IsKept r × CarryCut digest r e at new → CarriedAndCut s into digest k before after e old new
+    cut e both = (r, carried_by (λ outcome. CarryCut digest outcome e) r both.0 carried both.1)
 
 -- ---- by the settings
 
-pub live_ends : (settings : CarrySettings) (o : Opened) (status : Status) (before after : SourceState) (old new : Wire) → Opens settings o → EndsBy (CarriedAndTold (within o.client.settings o.moment) o.into settings.digest (auth_state_of o.client) before after old new) status new → CarryEnds settings status before after old new
-live_ends settings o status before after old new opens h = ends_as (CarriedAndTold (within o.client.settings o.moment) o.into settings.digest (auth_state_of o.client) before after old new) (LiveCarry settings before after old new) status new (λ r done. live r done) h where
-  live : (r : Result Bool OciDistributionError) → CarriedAndTold (within o.client.settings o.moment) o.into settings.digest (auth_state_of o.client) before after old new r → LiveCarry settings before after old new r
-  live r done = record { into = o.into; reads = opens.into; done = rw (opens.settings, opens.moment, opens.state) at done }
+pub live_ends : (settings : CarrySettings) (o : Opened) (status : Status) (before after : SourceState) (old new : Wire) → Opens settings o
+    → EndsBy (CarriedAndTold (within o.client.settings o.moment) o.into settings.digest (auth_state_of o.client) before after old new)
+    (λ e. CarriedAndCut (within o.client.settings o.moment) o.into settings.digest (auth_state_of o.client) before after e old new) status → CarryEnds settings status before after old new
+live_ends settings o status before after old new opens h = ends_as
+    {P = CarriedAndTold (within o.client.settings o.moment) o.into settings.digest (auth_state_of o.client) before after old new} {Q = LiveCarry settings before after old new}
+    {C = λ e. CarriedAndCut (within o.client.settings o.moment) o.into settings.digest (auth_state_of o.client) before after e old new} {D = λ e. LiveCarryCut settings before after e old new} status
+    (λ r kept done. live (CarryTold settings.digest) r done) (λ e both. (both.0, live (λ outcome. CarryCut settings.digest outcome e) both.0 both.1)) h where
+  live : (Gives : Giving) (r : Result Bool OciDistributionError) → CarriedBy Gives (within o.client.settings o.moment) o.into settings.digest (auth_state_of o.client) before after old new r → LiveCarryBy Gives settings before after old new r
+  live Gives r done = record { into = o.into; reads = opens.into; done = rw (opens.settings, opens.moment, opens.state) at done }

@@ -1,47 +1,25 @@
 -- How a pull of blobs ends, by its parts.
-use Rattle.std.proofs.Common.{◌≡◌, ◌≤◌, ◌-◌, ℕ, false, List, [], ◌++◌, All, take, drop, Result, Ok, Err, refl, sym, ap, ◌∙◌, subst, arith, append-nil, take-append-drop, take-take}
+use Rattle.std.proofs.Common.{◌≡◌, ◌≤◌, ◌-◌, ℕ, List, [], ◌++◌, All, take, drop, Result, Ok, Err, refl, sym, ap, ◌∙◌, subst, arith, append-nil, take-append-drop, take-take}
 use Rattle.oci_auth.specs.declared.auth_state.AuthState.{AuthState}
 use Rattle.oci_manifests.specs.declared.descriptor.OciDescriptor.{OciDescriptor}
 use Rattle.oci_names.specs.declared.reference.Reference.{Reference}
 use Rattle.engine_terms.specs.Contexts.{Context, within}
-use Rattle.engine_terms.specs.Error.{is_memory}
 use Rattle.engine_terms.specs.declared.error.OciDistributionError.{OciDistributionError}
 use Rattle.call_laws.specs.Blobs.{range_of}
 use Rattle.image_blobs.specs.declared.pulls.BlobRange.{BlobRange}
-use Rattle.live_host.specs.HostErrors.{HostCause}
 use Rattle.live_host.specs.Wire.{Wire}
 use Rattle.live_host.specs.declared.streams.HostError.{HostError}
-use Rattle.live_host.specs.declared.streams.HostError.TheVariants as host
 use Rattle.live_pull.specs.Justified.{Shown}
-use Rattle.live_pull.specs.Status.{status_of}
 use Rattle.live_pull.specs.declared.status.Status.{Status}
-use Rattle.live_pull.specs.declared.status.Status.TheVariants as status
-use Rattle.live_blobs.specs.Delivery.{BlobsTold}
-use Rattle.live_blobs.specs.Ends.{EndsBy}
-use Rattle.live_blobs.specs.LiveBlobs.{LiveBlobs, PulledAndTold, digests_of}
+use Rattle.live_blobs.specs.Delivery.{BlobsCut, BlobsTold, Delivers}
+use Rattle.live_blobs.specs.Ends.{EndsBy, IsKept}
+use Rattle.live_blobs.specs.LiveBlobs.{Giving, LiveBlobs, LiveBlobsBy, LiveBlobsCut, PulledAndCut, PulledAndTold, PulledBy, digests_of}
 use Rattle.live_blobs.specs.Opening.{Opens}
 use Rattle.live_blobs.specs.Pulled.{BlobsPulled, FirstReceived, IsReceived, IsStoodRange, Received, UnlessMemory}
 use Rattle.live_blobs.specs.Settings.{blobs_in}
 use Rattle.live_blobs.specs.declared.opening.Opened.{Opened}
 use Rattle.live_blobs.specs.declared.settings.BlobSettings.{BlobSettings}
-
--- memory did not run out
-abbrev pub IsKept : Result Unit OciDistributionError → Type 0
-IsKept (Ok u) = Unit {0}
-IsKept (Err e) = is_memory e ≡ false
-
-pub ends_as : {P Q : Result Unit OciDistributionError → Type 0} (s : Status) (new : Wire) → ((r : Result Unit OciDistributionError) → IsKept r → P r → Q r) → EndsBy P s new → EndsBy Q s new
-ends_as status.Pulled new f h = f (Ok tt) tt h
-ends_as status.Refused new f h = (h.0, h.1, f (Err h.0) h.1 h.2)
-ends_as status.UnreadableSettings new f h = h
-ends_as status.HostBroken new f h = h
-ends_as status.SinkFault new f h = h
-ends_as status.WantOfMemory new f h = tt
-
-pub host_ends : (P : Result Unit OciDistributionError → Type 0) (e : HostError) (new : Wire) → HostCause e new → EndsBy P (status_of e) new
-host_ends P host.Broken new cause = cause
-host_ends P host.Unwritten new cause = cause
-host_ends P host.WantOfMemory new cause = tt
+use Rattle.live_blobs.proofs.Delivered.{ends_as}
 
 unless : (r : Result Unit OciDistributionError) {P : Type 0} → IsKept r → UnlessMemory r P → P
 unless (Ok u) kept h = h
@@ -68,22 +46,36 @@ stood_of ds range to n (Err e) old new is received =
     }
 
 -- a pull, and what was sent of it
-pub told_ends : (s : Context) (image : Reference) (k : AuthState) (ds : List OciDescriptor) (range to : BlobRange) (n : ℕ) (r : Result Unit OciDistributionError) (old at new : Wire) (e : Status)
-    → UnlessMemory r (BlobsPulled s image k (range_of range.first range.end ds) r old at) → FirstReceived (range_of range.first range.end ds) n r old at → IsStoodRange range n r to
-    → EndsBy (λ x. (x ≡ r) × BlobsTold (digests_of (range_of to.first to.end ds)) x at new) e new
-    → EndsBy (PulledAndTold s image k (range_of range.first range.end ds) old new) e new
-told_ends s image k ds range to n r old at new e pull received is ends = ends_as {P = λ x. (x ≡ r) × BlobsTold (digests_of (range_of to.first to.end ds)) x at new} {Q = PulledAndTold s image k (range_of range.first range.end ds) old new} e new (λ x kept h.
-    record {
-      pulled_at = at;
-      pulled = unless x kept (subst (λ (y : Result Unit OciDistributionError). UnlessMemory y (BlobsPulled s image k (range_of range.first range.end ds) y old at)) (sym h.0) pull);
-      stood = range_of to.first to.end ds;
-      received = subst (λ (y : Result Unit OciDistributionError). Received (range_of range.first range.end ds) (range_of to.first to.end ds) y old at) (sym h.0) (stood_of ds range to n r old at is received);
-      told = h.1;
-    }) ends
+module _ (s : Context) (image : Reference) (k : AuthState) (ds : List OciDescriptor) (range to : BlobRange) (n : ℕ) (old at new : Wire) where
+  pulled_by : (Gives : Giving) (r : Result Unit OciDistributionError) → IsKept r → UnlessMemory r (BlobsPulled s image k (range_of range.first range.end ds) r old at) → FirstReceived (range_of range.first range.end ds) n r old at
+      → IsStoodRange range n r to → Gives (digests_of (range_of to.first to.end ds)) r at new → PulledBy Gives s image k (range_of range.first range.end ds) old new r
+  pulled_by Gives r kept pull received is given = record {
+    pulled_at = at;
+    pulled = unless r kept pull;
+    stood = range_of to.first to.end ds;
+    received = stood_of ds range to n r old at is received;
+    given = given;
+  }
+
+  pub told_ends : (r : Result Unit OciDistributionError) (e : Status) → UnlessMemory r (BlobsPulled s image k (range_of range.first range.end ds) r old at) → FirstReceived (range_of range.first range.end ds) n r old at → IsStoodRange range n r to
+      → Delivers (digests_of (range_of to.first to.end ds)) r e at new
+      → EndsBy (PulledAndTold s image k (range_of range.first range.end ds) old new) (λ h. PulledAndCut s image k (range_of range.first range.end ds) h old new) e
+  told_ends r e pull received is ends = ends_as {P = λ x. (x ≡ r) × BlobsTold (digests_of (range_of to.first to.end ds)) x at new} {Q = PulledAndTold s image k (range_of range.first range.end ds) old new} {C = λ h. IsKept r × BlobsCut (digests_of (range_of to.first to.end ds)) r h at new} {D = λ h. PulledAndCut s image k (range_of range.first range.end ds) h old new} e told cut ends where
+    told : (x : Result Unit OciDistributionError) → IsKept x → (x ≡ r) × BlobsTold (digests_of (range_of to.first to.end ds)) x at new → PulledAndTold s image k (range_of range.first range.end ds) old new x
+    told x kept h = pulled_by BlobsTold x kept
+        (subst (λ (y : Result Unit OciDistributionError). UnlessMemory y (BlobsPulled s image k (range_of range.first range.end ds) y old at)) (sym h.0) pull)
+        (subst (λ (y : Result Unit OciDistributionError). FirstReceived (range_of range.first range.end ds) n y old at) (sym h.0) received)
+        (subst (λ (y : Result Unit OciDistributionError). IsStoodRange range n y to) (sym h.0) is) h.1
+
+    cut : (h : HostError) → IsKept r × BlobsCut (digests_of (range_of to.first to.end ds)) r h at new → PulledAndCut s image k (range_of range.first range.end ds) h old new
+    cut h both = (r, pulled_by (λ digests outcome. BlobsCut digests outcome h) r both.0 pull received is both.1)
 
 -- by the settings
 pub live_ends : (settings : BlobSettings) (o : Opened) (old new : Wire) (e : Status) → Opens settings.settings o
-    → EndsBy (PulledAndTold (within o.settings o.moment) o.image o.state (blobs_in settings) old new) e new
-    → EndsBy (λ r. LiveBlobs settings r old new) e new
-live_ends settings o old new e opens ends = ends_as {P = PulledAndTold (within o.settings o.moment) o.image o.state (blobs_in settings) old new} {Q = λ r. LiveBlobs settings r old new} e new (λ r kept h.
-    record { image = o.image; reads = opens.image; done = rw (opens.settings, opens.moment, opens.state) at h }) ends
+    → EndsBy (PulledAndTold (within o.settings o.moment) o.image o.state (blobs_in settings) old new) (λ h. PulledAndCut (within o.settings o.moment) o.image o.state (blobs_in settings) h old new) e
+    → EndsBy (λ r. LiveBlobs settings r old new) (λ h. LiveBlobsCut settings h old new) e
+live_ends settings o old new e opens ends = ends_as {P = PulledAndTold (within o.settings o.moment) o.image o.state (blobs_in settings) old new} {Q = λ r. LiveBlobs settings r old new}
+    {C = λ h. PulledAndCut (within o.settings o.moment) o.image o.state (blobs_in settings) h old new} {D = λ h. LiveBlobsCut settings h old new} e
+    (λ r kept h. live BlobsTold r h) (λ h both. (both.0, live (λ digests outcome. BlobsCut digests outcome h) both.0 both.1)) ends where
+  live : (Gives : Giving) (r : Result Unit OciDistributionError) → PulledBy Gives (within o.settings o.moment) o.image o.state (blobs_in settings) old new r → LiveBlobsBy Gives settings r old new
+  live Gives r h = record { image = o.image; reads = opens.image; done = rw (opens.settings, opens.moment, opens.state) at h }

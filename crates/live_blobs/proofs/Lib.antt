@@ -2,6 +2,7 @@ pub mod Calls
 pub mod CarryEnding
 pub mod CarryReady
 pub mod Counted
+pub mod Delivered
 pub mod Ending
 pub mod FrameReads
 pub mod Listed

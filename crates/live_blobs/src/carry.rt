@@ -4,8 +4,9 @@ ghost use Rattle.oci_engine.specs.Kept.{auth_state_of};
 ghost use Rattle.engine_terms.specs.Contexts.{within};
 ghost use Rattle.live_host.specs.Wire.{wire};
 ghost use Rattle.live_blobs.specs.Carrying.{Carried, Compares, Lacked, Unless};
-ghost use Rattle.live_blobs.specs.CarryEnds.{CarriedAndTold, CarryEnds, EndsBy};
+ghost use Rattle.live_blobs.specs.CarryEnds.{CarriedAndCut, CarriedAndTold, CarryEnds};
 ghost use Rattle.live_blobs.specs.CarrySettings.{AreReady};
+ghost use Rattle.live_blobs.specs.Ends.{EndsBy};
 
 use crate::carry_calls::{ask, push};
 use crate::carry_delivery::deliver;
@@ -116,7 +117,9 @@ fn converse<S: Source, K: Sink, B: Source>(
     ensures { EndsBy (CarriedAndTold (within opened.old.client.settings opened.old.moment) opened.old.into digest.now
         (auth_state_of opened.old.client) (B.state bytes) (B.state result.1)
         (wire S.state K.state streams) (wire S.state K.state result.0.streams))
-        result.0.status (wire S.state K.state result.0.streams) }
+        (λ e. CarriedAndCut (within opened.old.client.settings opened.old.moment) opened.old.into digest.now
+        (auth_state_of opened.old.client) (B.state bytes) (B.state result.1) e
+        (wire S.state K.state streams) (wire S.state K.state result.0.streams)) result.0.status }
 {
     let (mut streams, (bytes, outcome)) = carry(alloc, streams, bytes, opened, digest);
     let status = deliver(alloc, &mut streams, digest, &outcome);

@@ -1,9 +1,10 @@
 // What is sent at the end of a carry.
 ghost use Rattle.std.specs.Prelude.{[], Ok, Err, IfErr, IfOk, OnOk};
-ghost use Rattle.live_host.specs.HostErrors.{HostCause};
+ghost use Rattle.live_host.specs.HostErrors.{TellCause};
 ghost use Rattle.live_host.specs.Wire.{wire, SendsFrame};
-ghost use Rattle.live_blobs.specs.CarryEnds.{Delivers, IsReport, RefusalTold};
+ghost use Rattle.live_blobs.specs.CarryEnds.{Delivers};
 ghost use Rattle.live_blobs.specs.CarryHeads.{carried_head};
+ghost use Rattle.live_blobs.specs.Delivery.{IsReport, RefusalCut, RefusalTold};
 
 use crate::carry_heads::carried_head;
 use byte_streams::{Sink, Source};
@@ -33,7 +34,8 @@ fn give_error<S: Source, K: Sink>(
 ) -> Result<(), HostError>
     ensures told { OnOk result (RefusalTold error.now
         (wire S.state K.state streams.old) (wire S.state K.state streams.new)) }
-    ensures cause { IfErr result (λ e. HostCause e (wire S.state K.state streams.new)) }
+    ensures cause { IfErr result (λ e. RefusalCut error.now e
+        (wire S.state K.state streams.old) (wire S.state K.state streams.new)) }
 {
     let report = report_of(alloc, error)?;
     let head = refused_head(alloc, report.as_str())?;
@@ -49,7 +51,8 @@ fn give_carried<S: Source, K: Sink>(
 ) -> Result<(), HostError>
     ensures told { OnOk result (SendsFrame (carried_head digest.now pushed) []
         (wire S.state K.state streams.old) (wire S.state K.state streams.new)) }
-    ensures cause { IfErr result (λ e. HostCause e (wire S.state K.state streams.new)) }
+    ensures cause { IfErr result (λ e. TellCause (carried_head digest.now pushed, []) e
+        (wire S.state K.state streams.old) (wire S.state K.state streams.new)) }
 {
     let head = carried_head(alloc, digest, pushed)?;
     tell(alloc, streams, &head, &[])?;

@@ -2,10 +2,9 @@
 ghost use Rattle.std.specs.Prelude.{◌≡◌, ◌≤◌, [], length, Ok, Err, IfOk, IfErr, OnOk, MatchOption};
 ghost use Rattle.call_laws.specs.Blobs.{descriptors_of, range_of};
 ghost use Rattle.image_blobs.specs.Taken.{IsAt};
-ghost use Rattle.live_host.specs.HostErrors.{HostCause};
+ghost use Rattle.live_host.specs.HostErrors.{TellCause};
 ghost use Rattle.live_host.specs.Wire.{wire, SendsFrame};
-ghost use Rattle.live_blobs.specs.Delivery.{BlobsTold, IsReport, RefusalTold};
-ghost use Rattle.live_blobs.specs.Ends.{EndsBy};
+ghost use Rattle.live_blobs.specs.Delivery.{BlobsCut, BlobsTold, Delivers, IsReport, RefusalCut, RefusalTold};
 ghost use Rattle.live_blobs.specs.Heads.{stood_head};
 ghost use Rattle.live_blobs.specs.LiveBlobs.{digests_of};
 
@@ -67,7 +66,9 @@ fn give_stood<S: Source, K: Sink>(
     ensures told { OnOk result (SendsFrame
         (stood_head (digests_of (range_of range.first range.end (descriptors_of manifest.now)))) []
         (wire S.state K.state streams.old) (wire S.state K.state streams.new)) }
-    ensures cause { IfErr result (λ e. HostCause e (wire S.state K.state streams.new)) }
+    ensures cause { IfErr result (λ e. TellCause
+        (stood_head (digests_of (range_of range.first range.end (descriptors_of manifest.now))), []) e
+        (wire S.state K.state streams.old) (wire S.state K.state streams.new)) }
 {
     let digests = digests(alloc, manifest, range)?;
     let head = stood_head(alloc, &digests)?;
@@ -95,7 +96,8 @@ pub fn give_error<S: Source, K: Sink>(
 ) -> Result<(), HostError>
     ensures told { OnOk result (RefusalTold error.now
         (wire S.state K.state streams.old) (wire S.state K.state streams.new)) }
-    ensures cause { IfErr result (λ e. HostCause e (wire S.state K.state streams.new)) }
+    ensures cause { IfErr result (λ e. RefusalCut error.now e
+        (wire S.state K.state streams.old) (wire S.state K.state streams.new)) }
 {
     let report = report_of(alloc, error)?;
     let head = refused_head(alloc, report.as_str())?;
@@ -114,7 +116,9 @@ fn give_both<S: Source, K: Sink>(
     ensures told { OnOk result (BlobsTold
         (digests_of (range_of range.first range.end (descriptors_of manifest.now))) (Err error.now)
         (wire S.state K.state streams.old) (wire S.state K.state streams.new)) }
-    ensures cause { IfErr result (λ e. HostCause e (wire S.state K.state streams.new)) }
+    ensures cause { IfErr result (λ e. BlobsCut
+        (digests_of (range_of range.first range.end (descriptors_of manifest.now))) (Err error.now) e
+        (wire S.state K.state streams.old) (wire S.state K.state streams.new)) }
 {
     give_stood(alloc, streams, manifest, range)?;
     give_error(alloc, streams, error)?;
@@ -127,10 +131,8 @@ fn deliver_blobs<S: Source, K: Sink>(
     manifest: &OciImageManifest,
     range: BlobRange,
 ) -> Status
-    ensures { EndsBy (λ r. (r ≡ Ok tt) × BlobsTold
-        (digests_of (range_of range.first range.end (descriptors_of manifest.now))) r
-        (wire S.state K.state streams.old) (wire S.state K.state streams.new))
-        result (wire S.state K.state streams.new) }
+    ensures { Delivers (digests_of (range_of range.first range.end (descriptors_of manifest.now)))
+        (Ok tt) result (wire S.state K.state streams.old) (wire S.state K.state streams.new) }
 {
     match give_stood(alloc, streams, manifest, range) {
         Ok(()) => Status::Pulled,
@@ -145,10 +147,8 @@ fn deliver_error<S: Source, K: Sink>(
     range: BlobRange,
     error: &OciDistributionError,
 ) -> Status
-    ensures { EndsBy (λ r. (r ≡ Err error.now) × BlobsTold
-        (digests_of (range_of range.first range.end (descriptors_of manifest.now))) r
-        (wire S.state K.state streams.old) (wire S.state K.state streams.new))
-        result (wire S.state K.state streams.new) }
+    ensures { Delivers (digests_of (range_of range.first range.end (descriptors_of manifest.now)))
+        (Err error.now) result (wire S.state K.state streams.old) (wire S.state K.state streams.new) }
 {
     if error.is_memory() {
         return Status::WantOfMemory;
@@ -168,10 +168,8 @@ pub(crate) fn deliver<S: Source, K: Sink>(
     range: BlobRange,
     outcome: &Result<(), OciDistributionError>,
 ) -> Status
-    ensures { EndsBy (λ r. (r ≡ outcome.now) × BlobsTold
-        (digests_of (range_of range.first range.end (descriptors_of manifest.now))) r
-        (wire S.state K.state streams.old) (wire S.state K.state streams.new))
-        result (wire S.state K.state streams.new) }
+    ensures { Delivers (digests_of (range_of range.first range.end (descriptors_of manifest.now)))
+        outcome.now result (wire S.state K.state streams.old) (wire S.state K.state streams.new) }
 {
     match outcome {
         Ok(()) => deliver_blobs(alloc, streams, manifest, range),

@@ -4,7 +4,7 @@ ghost use Rattle.engine_terms.specs.Contexts.{within};
 ghost use Rattle.call_laws.specs.Blobs.{descriptors_of, range_of};
 ghost use Rattle.live_host.specs.Wire.{wire};
 ghost use Rattle.live_blobs.specs.Ends.{EndsBy};
-ghost use Rattle.live_blobs.specs.LiveBlobs.{LiveBlobs, PulledAndTold};
+ghost use Rattle.live_blobs.specs.LiveBlobs.{LiveBlobs, LiveBlobsCut, PulledAndCut, PulledAndTold};
 ghost use Rattle.live_blobs.specs.Pulled.{IsStoodRange};
 ghost use Rattle.live_blobs.specs.Settings.{AreReady};
 
@@ -61,7 +61,9 @@ fn converse<S: Source, K: Sink>(
     ensures { EndsBy (PulledAndTold (within opened.old.settings opened.old.moment) opened.old.image opened.old.state
         (range_of range.first range.end (descriptors_of manifest.now))
         (wire S.state K.state streams) (wire S.state K.state result.streams))
-        result.status (wire S.state K.state result.streams) }
+        (λ e. PulledAndCut (within opened.old.settings opened.old.moment) opened.old.image opened.old.state
+        (range_of range.first range.end (descriptors_of manifest.now)) e
+        (wire S.state K.state streams) (wire S.state K.state result.streams)) result.status }
 {
     let (mut streams, stood, outcome) = pull(alloc, streams, opened, manifest, range);
     let stood = stood_range(range, stood, &outcome);
@@ -81,7 +83,8 @@ pub fn serve_blobs<S: Source, K: Sink>(
     requires { AreReady settings }
     ensures status { EndsBy (λ r. LiveBlobs settings r
         (wire S.state K.state streams) (wire S.state K.state result.streams))
-        result.status (wire S.state K.state result.streams) }
+        (λ e. LiveBlobsCut settings e (wire S.state K.state streams) (wire S.state K.state result.streams))
+        result.status }
 {
     let started = match start(alloc, &settings.settings) {
         Ok(started) => started,

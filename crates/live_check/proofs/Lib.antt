@@ -1,4 +1,5 @@
 pub mod Ends
+pub mod EntryLayers
 pub mod FrameReads
 pub mod InTurn
 pub mod LockEnds

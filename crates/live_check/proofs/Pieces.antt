@@ -12,9 +12,13 @@ use Rattle.oci_manifests.specs.declared.descriptor.OciDescriptor.{OciDescriptor}
 use Rattle.hex.specs.Hex.{encode_lower}
 use Rattle.image_blobs.specs.Checked.{IsBlob, IsDigesterOf}
 use Rattle.live_host.specs.Wire.{Wire}
-use Rattle.live_check.specs.Blobs.{NotSized, PartsChecked, PartsFall, PartsHashed, PartsOther, PartsStand, PartsWhole, WereReceived, WhyNot, bytes_of}
-use Rattle.live_check.specs.Parts.{IsPart}
+use Rattle.live_host.specs.declared.streams.HostError.{HostError}
+use Rattle.live_pull.specs.Status.{StatusCause}
+use Rattle.live_pull.specs.declared.status.Status.{Status}
+use Rattle.live_check.specs.Blobs.{NotSized, PartsChecked, PartsFall, PartsHashed, PartsOther, PartsStand, PartsWhole, PiecesCut, WereReceived, WhyNot, bytes_of}
+use Rattle.live_check.specs.Parts.{IsPart, PartCut}
 use Rattle.live_check.specs.declared.parts.Part.TheVariants.{Piece, End, Failed}
+use Rattle.live_check.proofs.Ends.{caused_so}
 use Rattle.live_check.proofs.PartsIn.{some_bytes}
 
 -- ---- one piece after another
@@ -63,6 +67,11 @@ hashed_over size left piece from to old now next so part over = record {
   received = (now, so.received, part);
   why = inr (inr (refl, omega (arith, so.counted, over, length-append (bytes_of so.pieces) piece)));
 }
+
+-- the next part was not received
+pub hashed_cut : (size left : ℕ) (from to : Digester) (s : Status) (old now new : Wire) → HashedSoFar size left from to old now → StatusCause (λ e. PartCut e now new) s → StatusCause (λ e. PiecesCut size e old new) s
+hashed_cut size left from to s old now new so h =
+    caused_so (λ e. PartCut e now new) (λ e. PiecesCut size e old new) s (λ e cut. record { pieces = so.pieces; cut_at = now; received = so.received; fit = omega (arith, so.counted); cut = cut }) h
 
 -- ---- the digest
 

@@ -1,11 +1,11 @@
 -- Documents hold the same under the policy of the settings, whatever a caller's boxes mean, since none of its constraints is a box.
-use Rattle.std.proofs.Common.{◌≡◌, ◌<◌, ℕ, suc, false, IsTrue, List, [], ◌∷◌, ◌++◌, length, Option, Some, None, Result, Ok, Err, refl, sym, ap, subst, ◌∙◌}
+use Rattle.std.proofs.Common.{◌≡◌, ◌<◌, ℕ, suc, inl, inr, false, IsTrue, List, [], ◌∷◌, ◌++◌, length, Option, Some, None, Result, Ok, Err, refl, sym, ap, subst, ◌∙◌}
 use Rattle.std.specs.Prelude.{Bool, IfOk, IfErr}
 use Rattle.std.specs.List.{All}
 use Rattle.std.proofs.lemmas.List.Elements.{All-nil, All-cons, All-head, All-tail}
 use Rattle.oci_manifests.specs.declared.promise.ResolverPromise.{ResolverPromise}
 use Rattle.cosign_layers.specs.Constraint.{accepts}
-use Rattle.cosign_layers.specs.Satisfying.{CustomVerdict, StandsFor, policy_context}
+use Rattle.cosign_layers.specs.Satisfying.{CustomVerdict, PolicyContext, StandsFor, policy_context}
 use Rattle.cosign_layers.specs.declared.constraint.Constraint.{Constraint}
 use Rattle.cosign_layers.specs.declared.policy.PullPolicy.{PullPolicy}
 use Rattle.cosign_parts.specs.Trust.{Trust}
@@ -21,11 +21,13 @@ use Rattle.pull_lock.specs.declared.lock.LockEntry.{LockEntry}
 use Rattle.locked_cases.proofs.Policies.{judged_by}
 use Rattle.live_host.specs.Wire.{Wire}
 use Rattle.live_host.specs.declared.answers.Answers.{Answers}
+use Rattle.live_host.specs.declared.streams.HostError.{HostError}
 use Rattle.live_pull.specs.Pulls.{meaning_of, trust_of}
+use Rattle.live_pull.specs.Status.{StatusCause}
 use Rattle.live_pull.specs.declared.settings.LiveSettings.{LiveSettings}
 use Rattle.live_pull.specs.declared.status.Status.{Status}
-use Rattle.live_check.specs.Checked.{AsksAndDecides, Checked, EndsChecked, status_by}
-use Rattle.live_check.specs.Stopped.{Stopped}
+use Rattle.live_check.specs.Checked.{AsksAndDecides, AsksAndDecidesBy, AsksAndDecidesCut, Checked, CheckedCut, Giving, VerdictCut, VerdictOn, status_by}
+use Rattle.live_check.specs.Ends.{EndsChecked}
 use Rattle.live_check.specs.declared.settings.CheckSettings.{CheckSettings}
 use Rattle.live_check.proofs.Ends.{ends, ends_so}
 
@@ -100,24 +102,39 @@ gives_so {V} {H} own keys written t promise constraints e (Some d) is h = by_wri
     accepted = h.accepted;
   }
 
--- under the policy of the settings
-decides_so : {V : Type 0} {H : V → Type 0} (own : CustomVerdict V H) (settings : LiveSettings) (constraints : List (Constraint V H)) (entry : LockEntry) (first end : ℕ) (held : Bool) (old new : Wire) → constraints ≡ constraints_by settings.constraints
-    → AsksAndDecides (λ (answers : Answers). policy_context (record { keys = settings.keys; constraints = constraints }) own (trust_of settings answers)) settings.platform entry first end held old new
-    → AsksAndDecides (meaning_of settings) settings.platform entry first end held old new
-decides_so own settings constraints entry first end held old new is h = record {
-  asked_at = h.asked_at;
-  answers = h.answers;
-  questions = h.questions;
-  decided = record {
-    found = h.decided.found;
-    gives = gives_so own settings.keys settings.constraints (trust_of settings h.answers) settings.platform constraints entry h.decided.found is h.decided.gives;
-    verdict = h.decided.verdict;
-  };
-}
+module _ {V : Type 0} {H : V → Type 0} (own : CustomVerdict V H) (settings : LiveSettings) (constraints : List (Constraint V H)) (is : constraints ≡ constraints_by settings.constraints) where
+  abbrev under : Answers → PolicyContext V H
+  under answers = policy_context (record { keys = settings.keys; constraints = constraints }) own (trust_of settings answers)
+
+  -- under the policy of the settings
+  decides_so : (Gives : Giving) (entry : LockEntry) (old new : Wire) → AsksAndDecidesBy Gives under settings.platform entry old new → AsksAndDecidesBy Gives (meaning_of settings) settings.platform entry old new
+  decides_so Gives entry old new h = record {
+    asked_at = h.asked_at;
+    answers = h.answers;
+    questions = h.questions;
+    about = h.about;
+    decided = record {
+      found = h.decided.found;
+      gives = gives_so own settings.keys settings.constraints (trust_of settings h.answers) settings.platform constraints entry h.decided.found is h.decided.gives;
+      verdict = h.decided.verdict;
+    };
+  }
+
+  cut_so : (entry : LockEntry) (first end : ℕ) (e : HostError) (old new : Wire) → AsksAndDecidesCut under settings.platform entry first end e old new → AsksAndDecidesCut (meaning_of settings) settings.platform entry first end e old new
+  cut_so entry first end e old new (inl asks) = inl asks
+  cut_so entry first end e old new (inr cut) = inr (decides_so (VerdictCut first end e) entry old new cut)
+
+  pub decided_ends : (entry : LockEntry) (first end : ℕ) (r : Result Bool Status) (old new : Wire)
+      → IfOk r (λ held. AsksAndDecides under settings.platform entry first end held old new) → IfErr r (StatusCause (λ e. AsksAndDecidesCut under settings.platform entry first end e old new))
+      → EndsChecked (λ held. AsksAndDecides (meaning_of settings) settings.platform entry first end held old new) (λ e. AsksAndDecidesCut (meaning_of settings) settings.platform entry first end e old new) (status_by r)
+  decided_ends entry first end r old new told cause =
+      ends_so (λ held. AsksAndDecides under settings.platform entry first end held old new) (λ held. AsksAndDecides (meaning_of settings) settings.platform entry first end held old new)
+      (λ e. AsksAndDecidesCut under settings.platform entry first end e old new) (λ e. AsksAndDecidesCut (meaning_of settings) settings.platform entry first end e old new)
+      (status_by r) (λ held h. decides_so (VerdictOn first end held) entry old new h) (λ e h. cut_so entry first end e old new h)
+      (ends (λ held. AsksAndDecides under settings.platform entry first end held old new) (λ e. AsksAndDecidesCut under settings.platform entry first end e old new) r told cause)
 
 pub checked_ends : {V : Type 0} {H : V → Type 0} (own : CustomVerdict V H) (settings : CheckSettings) (constraints : List (Constraint V H)) (r : Result Bool Status) (old new : Wire) → constraints ≡ constraints_by settings.settings.constraints
     → IfOk r (λ held. AsksAndDecides (λ (answers : Answers). policy_context (record { keys = settings.settings.keys; constraints = constraints }) own (trust_of settings.settings answers)) settings.settings.platform settings.entry settings.first settings.end held old new)
-    → IfErr r (λ s. Stopped s new) → EndsChecked (λ held. Checked settings held old new) (status_by r) new
-checked_ends own settings constraints r old new is told cause =
-    let P : Bool → Type 0 = λ held. AsksAndDecides (λ (answers : Answers). policy_context (record { keys = settings.settings.keys; constraints = constraints }) own (trust_of settings.settings answers)) settings.settings.platform settings.entry settings.first settings.end held old new in
-    ends_so P (λ held. Checked settings held old new) (status_by r) new (λ held h. decides_so own settings.settings constraints settings.entry settings.first settings.end held old new is h) (ends P r new told cause)
+    → IfErr r (StatusCause (λ e. AsksAndDecidesCut (λ (answers : Answers). policy_context (record { keys = settings.settings.keys; constraints = constraints }) own (trust_of settings.settings answers)) settings.settings.platform settings.entry settings.first settings.end e old new))
+    → EndsChecked (λ held. Checked settings held old new) (λ e. CheckedCut settings e old new) (status_by r)
+checked_ends own settings constraints r old new is told cause = decided_ends own settings.settings constraints is settings.entry settings.first settings.end r old new told cause

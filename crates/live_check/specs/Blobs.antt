@@ -1,13 +1,16 @@
 -- The blobs of a range, each received in parts and held to its descriptor.
-use Rattle.std.specs.Prelude.{◌≡◌, ◌⊎◌, ◌<◌, ℕ, Bool, true, false, List, [], ◌∷◌, ◌++◌, length, Option, Some, None}
+use Rattle.std.specs.Prelude.{◌≡◌, ◌⊎◌, ◌<◌, ◌≤◌, ℕ, pos, Bool, true, false, List, [], ◌∷◌, ◌++◌, length}
+use Rattle.std.specs.Prelude.{Option, Some, None}
 use Rattle.oci_names.specs.declared.algorithm.Algorithm.{Algorithm}
 use Rattle.oci_digests.specs.Holds.{Holds}
 use Rattle.oci_digests.specs.declared.digester.Digester.{Digester}
 use Rattle.oci_manifests.specs.declared.descriptor.OciDescriptor.{OciDescriptor}
 use Rattle.image_blobs.specs.Checked.{IsBlob}
+use Rattle.live_host.specs.HostErrors.{TellCause}
 use Rattle.live_host.specs.Wire.{Wire, SendsFrame}
+use Rattle.live_host.specs.declared.streams.HostError.{HostError}
 use Rattle.live_check.specs.Heads.{want_head}
-use Rattle.live_check.specs.Parts.{IsPart}
+use Rattle.live_check.specs.Parts.{IsPart, PartCut}
 use Rattle.live_check.specs.declared.parts.Part.TheVariants.{Piece, End, Failed}
 
 -- ---- what was received
@@ -89,3 +92,28 @@ pub record PartsOther (size : ℕ) (old new : Wire) : Type 0 where
 abbrev pub PartsHashed : ℕ → Digester → Digester → Bool → Wire → Wire → Type 0
 PartsHashed size from to true old new = PartsWhole size from to old new
 PartsHashed size from to false old new = PartsOther size old new
+
+-- ---- not to the end
+
+-- these pieces, of no more bytes than the size, were received, and then no part
+pub record PiecesCut (size : ℕ) (e : HostError) (old new : Wire) : Type 0 where
+  pub pieces : List (List ℕ)
+  pub cut_at : Wire
+  pub received : WereReceived pieces old cut_at
+  pub fit : length (bytes_of pieces) ≤ size
+  pub cut : PartCut e cut_at new
+
+-- the same by the size of a descriptor
+abbrev pub PartsCut : OciDescriptor → HostError → Wire → Wire → Type 0
+PartsCut x e old new = (size : ℕ) × (x.size ≡ pos size) × PiecesCut size e old new
+
+-- why a blob was not checked: it was not asked for; or it was, and its parts were cut
+abbrev pub BlobCut : OciDescriptor → HostError → Wire → Wire → Type 0
+BlobCut x e old new = TellCause (want_head x.digest, []) e old new
+    ⊎ ((asked_at : Wire) × SendsFrame (want_head x.digest) [] old asked_at × PartsCut x e asked_at new)
+
+-- the blobs in order: they stand up to the one that was cut
+abbrev pub WentCut : List OciDescriptor → HostError → Wire → Wire → Type 0
+WentCut [] e old new = ⊥
+WentCut (x ∷ xs) e old new = BlobCut x e old new
+    ⊎ ((between : Wire) × BlobChecked x true old between × WentCut xs e between new)

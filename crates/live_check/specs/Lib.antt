@@ -1,9 +1,10 @@
+pub mod Asked
 pub mod Blobs
 pub mod Checked
+pub mod Ends
 pub mod Heads
 pub mod LockChecked
 pub mod LockHeads
 pub mod LockSettings
 pub mod Parts
 pub mod Settings
-pub mod Stopped

@@ -1,9 +1,15 @@
 -- The parts of a blob, each asked for and received as a frame.
-use Rattle.std.specs.Prelude.{◌≡◌, ℕ, List, [], ◌∷◌, Option, Some, None, bytes_eq, codes, if◌then◌else◌}
+use Rattle.std.specs.Prelude.{◌≡◌, ◌⊎◌, ℕ, List, [], ◌∷◌, Option, Some, None, bytes_eq, codes, if◌then◌else◌}
 use Rattle.byte_streams.specs.Source.{Takes}
 use Rattle.live_link.specs.Frame.{IsFrame, kind_of, most_bytes}
+use Rattle.live_link.specs.Reading.{Stops}
 use Rattle.live_link.specs.declared.frame.Frame.{Frame}
+use Rattle.live_link.specs.declared.reading.FrameError.{FrameError}
+use Rattle.live_link.specs.declared.reading.FrameError.TheVariants as frame_error
+use Rattle.live_host.specs.HostErrors.{SendsPrefix}
 use Rattle.live_host.specs.Wire.{Wire, SendsFrame}
+use Rattle.live_host.specs.declared.streams.HostError.{HostError}
+use Rattle.live_host.specs.declared.streams.HostError.TheVariants as host
 use Rattle.live_check.specs.Heads.{more_head}
 use Rattle.live_check.specs.declared.parts.Part.{Part}
 use Rattle.live_check.specs.declared.parts.Part.TheVariants.{Piece, End, Failed}
@@ -38,3 +44,32 @@ pub record IsPart (part : Part) (old new : Wire) : Type 0 where
   pub frame : Frame
   pub received : TakesFrame frame asked_at new
   pub is : part_of frame ≡ Some part
+
+-- ---- no part
+
+-- no frame was received, and nothing was sent: the source failed or ended, or the line is malformed
+abbrev pub TakesNone : Wire → Wire → Type 0
+TakesNone old new = (e : FrameError) × (text : List ℕ) × Takes text old.source new.source
+    × Stops most_bytes e text old.source new.source × (e ≡ frame_error.WantOfMemory → ⊥) × (new.sink ≡ old.sink)
+
+-- a frame was received that is not a part of a blob
+abbrev pub TakesOther : Wire → Wire → Type 0
+TakesOther old new = (frame : Frame) × TakesFrame frame old new × (part_of frame ≡ None)
+
+-- why no frame was received
+abbrev pub TakeCause : HostError → Wire → Wire → Type 0
+TakeCause host.Broken old new = TakesNone old new
+TakeCause host.Unwritten old new = ⊥
+TakeCause host.WantOfMemory old new = Unit {0}
+
+-- the next part was asked for, and none was received
+pub record IsNoPart (old new : Wire) : Type 0 where
+  pub asked_at : Wire
+  pub asked : SendsFrame more_head [] old asked_at
+  pub none : TakesNone asked_at new ⊎ TakesOther asked_at new
+
+-- why the next part was not received
+abbrev pub PartCut : HostError → Wire → Wire → Type 0
+PartCut host.Broken old new = IsNoPart old new
+PartCut host.Unwritten old new = SendsPrefix (more_head, []) old new
+PartCut host.WantOfMemory old new = Unit {0}

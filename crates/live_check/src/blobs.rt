@@ -2,8 +2,9 @@
 ghost use Rattle.std.specs.Prelude.{IfOk, IfErr};
 ghost use Rattle.call_laws.specs.Blobs.{descriptors_of, range_of};
 ghost use Rattle.live_host.specs.Wire.{wire};
+ghost use Rattle.live_pull.specs.Status.{StatusCause};
 ghost use Rattle.live_check.specs.Blobs.{BlobChecked, PartsChecked, PartsHashed, Went};
-ghost use Rattle.live_check.specs.Stopped.{Stopped};
+ghost use Rattle.live_check.specs.Blobs.{BlobCut, PartsCut, PiecesCut, WentCut};
 
 use crate::heads::want_head;
 use crate::parts::{Part, next_part};
@@ -26,7 +27,8 @@ fn hash_parts<S: Source, K: Sink>(
 ) -> Result<bool, Status>
     ensures hashed { IfOk result (λ sized. PartsHashed size digester.old digester.new sized
         (wire S.state K.state streams.old) (wire S.state K.state streams.new)) }
-    ensures cause { IfErr result (λ status. Stopped status (wire S.state K.state streams.new)) }
+    ensures cause { IfErr result (StatusCause (λ e. PiecesCut size e
+        (wire S.state K.state streams.old) (wire S.state K.state streams.new))) }
 {
     let mut left = size;
     loop {
@@ -53,7 +55,8 @@ fn parts_stand<S: Source, K: Sink>(
 ) -> Result<bool, Status>
     ensures checked { IfOk result (λ stood. PartsChecked x.now stood
         (wire S.state K.state streams.old) (wire S.state K.state streams.new)) }
-    ensures cause { IfErr result (λ status. Stopped status (wire S.state K.state streams.new)) }
+    ensures cause { IfErr result (StatusCause (λ e. PartsCut x.now e
+        (wire S.state K.state streams.old) (wire S.state K.state streams.new))) }
 {
     if x.size < 0 {
         return Ok(false);
@@ -77,7 +80,8 @@ fn blob_stands<S: Source, K: Sink>(
 ) -> Result<bool, Status>
     ensures checked { IfOk result (λ stood. BlobChecked x.now stood
         (wire S.state K.state streams.old) (wire S.state K.state streams.new)) }
-    ensures cause { IfErr result (λ status. Stopped status (wire S.state K.state streams.new)) }
+    ensures cause { IfErr result (StatusCause (λ e. BlobCut x.now e
+        (wire S.state K.state streams.old) (wire S.state K.state streams.new))) }
 {
     let head = want_head(alloc, &x.digest)?;
     tell(alloc, streams, &head, &[])?;
@@ -85,8 +89,8 @@ fn blob_stands<S: Source, K: Sink>(
     Ok(stood)
 }
 
-/// Asks for the blobs of a range one after another, up to the first that does not stand; returns the digest of that one,
-/// or `None` if each stands.
+/// Asks for the blobs of a range one after another, up to the first that does not stand; returns the digest of that
+/// one, or `None` if each stands.
 pub(crate) fn first_fallen<S: Source, K: Sink>(
     alloc: Global,
     streams: &mut Streams<S, K>,
@@ -95,7 +99,9 @@ pub(crate) fn first_fallen<S: Source, K: Sink>(
 ) -> Result<Option<Text>, Status>
     ensures went { IfOk result (λ fell. Went (range_of range.first range.end (descriptors_of manifest.now)) fell
         (wire S.state K.state streams.old) (wire S.state K.state streams.new)) }
-    ensures cause { IfErr result (λ status. Stopped status (wire S.state K.state streams.new)) }
+    ensures cause { IfErr result (StatusCause (λ e. WentCut
+        (range_of range.first range.end (descriptors_of manifest.now)) e
+        (wire S.state K.state streams.old) (wire S.state K.state streams.new))) }
 {
     let mut at = range.first;
     while at < range.end {

@@ -1,5 +1,5 @@
-//! Checks without a request, of a lock file, and of an image that the host has, documents and blobs: what is asked, what
-//! is received, and the verdict that is sent.
+//! Checks without a request, of a lock file, and of an image that the host has, documents and blobs: what is asked,
+//! what is received, and the verdict that is sent.
 #![tactic(auto)]
 
 mod blobs;

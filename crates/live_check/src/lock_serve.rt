@@ -3,11 +3,12 @@ ghost use Rattle.std.specs.Prelude.{◌≡◌, IfOk, IfErr};
 ghost use Rattle.cosign_layers.specs.Satisfying.{policy_context};
 ghost use Rattle.cosign_parts.specs.Trust.{trust};
 ghost use Rattle.live_host.specs.Answers.{valid_by, vouched_by};
-ghost use Rattle.live_host.specs.HostErrors.{HostCause};
 ghost use Rattle.live_host.specs.Wire.{wire};
+ghost use Rattle.live_pull.specs.Status.{StatusCause, status_of};
 ghost use Rattle.pull_lock.specs.Locked.{Judges, Locked};
-ghost use Rattle.live_check.specs.LockChecked.{AsksAndTells, EndsChecked, Judged, LockChecked, Unread, VerdictTold};
-ghost use Rattle.live_check.specs.LockChecked.{status_by};
+ghost use Rattle.live_check.specs.Ends.{EndsChecked};
+ghost use Rattle.live_check.specs.LockChecked.{AsksAndTells, AsksAndTellsCut, IsCut, IsTold, Judged, JudgedCut};
+ghost use Rattle.live_check.specs.LockChecked.{JudgesBy, LockChecked, LockCheckedCut, Unread, UnreadCut, status_by};
 ghost use Rattle.live_check.specs.LockHeads.{is_held};
 
 use crate::layers::layers_in;
@@ -60,10 +61,14 @@ fn judge<S: Source, K: Sink>(
     answers: &Answers,
     lock: &Lock,
 ) -> Result<bool, HostError>
-    ensures told { IfOk result (λ held. VerdictTold (policy_context terms.now.policy (λ b. accepts (b.vtable, b.value))
-        (trust (valid_by answers.now) (vouched_by answers.now) terms.now.log_keys)) terms.now.platform lock.now held
+    ensures told { IfOk result (λ held. JudgesBy (IsTold held)
+        (policy_context terms.now.policy (λ b. accepts (b.vtable, b.value))
+        (trust (valid_by answers.now) (vouched_by answers.now) terms.now.log_keys)) terms.now.platform lock.now
         (wire S.state K.state streams.old) (wire S.state K.state streams.new)) }
-    ensures cause { IfErr result (λ e. HostCause e (wire S.state K.state streams.new)) }
+    ensures cause { IfErr result (λ e. StatusCause (λ cut. JudgesBy (IsCut cut)
+        (policy_context terms.now.policy (λ b. accepts (b.vtable, b.value))
+        (trust (valid_by answers.now) (vouched_by answers.now) terms.now.log_keys)) terms.now.platform lock.now
+        (wire S.state K.state streams.old) (wire S.state K.state streams.new)) (status_of e)) }
 {
     let verdict = check_under(alloc, terms, answers, lock)?;
     let head = verdict_head(alloc, &verdict)?;
@@ -82,7 +87,10 @@ fn ask_and_judge<S: Source, K: Sink>(
         (λ b. accepts (b.vtable, b.value)) (trust (valid_by answers) (vouched_by answers) terms.now.log_keys))
         terms.now.platform lock.now held
         (wire S.state K.state streams.old) (wire S.state K.state streams.new)) }
-    ensures cause { IfErr result (λ e. HostCause e (wire S.state K.state streams.new)) }
+    ensures cause { IfErr result (λ e. AsksAndTellsCut (λ answers. policy_context terms.now.policy
+        (λ b. accepts (b.vtable, b.value)) (trust (valid_by answers) (vouched_by answers) terms.now.log_keys))
+        terms.now.platform lock.now e
+        (wire S.state K.state streams.old) (wire S.state K.state streams.new)) }
 {
     let layers = layers_in(alloc, &terms.log_keys, lock)?;
     let answers = ask_layers(
@@ -120,7 +128,8 @@ fn check_read<S: Source, K: Sink>(
 ) -> Ended<S, K>
     ensures { EndsChecked (λ held. Judged settings lock held
         (wire S.state K.state streams) (wire S.state K.state result.streams))
-        result.status (wire S.state K.state result.streams) }
+        (λ e. JudgedCut settings lock e (wire S.state K.state streams) (wire S.state K.state result.streams))
+        result.status }
 {
     let constraints = match constraints_from(alloc, settings.constraints.as_slice()) {
         Ok(constraints) => constraints,
@@ -143,7 +152,8 @@ fn tell_unread<S: Source, K: Sink>(
 ) -> Result<bool, HostError>
     ensures told { IfOk result (λ held.
         Unread error held (wire S.state K.state streams.old) (wire S.state K.state streams.new)) }
-    ensures cause { IfErr result (λ e. HostCause e (wire S.state K.state streams.new)) }
+    ensures cause { IfErr result (λ e.
+        UnreadCut error e (wire S.state K.state streams.old) (wire S.state K.state streams.new)) }
 {
     let head = unread_head(alloc, error)?;
     tell(alloc, streams, &head, &[])?;
@@ -158,7 +168,7 @@ fn end_unread<S: Source, K: Sink>(
 ) -> Ended<S, K>
     ensures { EndsChecked (λ held. Unread error held
         (wire S.state K.state streams) (wire S.state K.state result.streams))
-        result.status (wire S.state K.state result.streams) }
+        (λ e. UnreadCut error e (wire S.state K.state streams) (wire S.state K.state result.streams)) result.status }
 {
     let mut streams = streams;
     let held = tell_unread(alloc, &mut streams, error);
@@ -171,9 +181,9 @@ fn end_with<S, K>(status: Status, streams: Streams<S, K>) -> Ended<S, K>
     Ended { status, streams }
 }
 
-/// Checks a lock with a host: reads its text, asks the host about the signature layers of its entries, decides under its
-/// answers, and sends the verdict, or why the text is not a lock file. No request is sent. Returns the exit status, which
-/// is `Pulled` if the lock holds, and the streams.
+/// Checks a lock with a host: reads its text, asks the host about the signature layers of its entries, decides under
+/// its answers, and sends the verdict, or why the text is not a lock file. No request is sent. Returns the exit status,
+/// which is `Pulled` if the lock holds, and the streams.
 pub fn serve_lock<S: Source, K: Sink>(
     alloc: Global,
     streams: Streams<S, K>,
@@ -181,7 +191,8 @@ pub fn serve_lock<S: Source, K: Sink>(
 ) -> Ended<S, K>
     ensures status { EndsChecked (λ held. LockChecked settings held
         (wire S.state K.state streams) (wire S.state K.state result.streams))
-        result.status (wire S.state K.state result.streams) }
+        (λ e. LockCheckedCut settings e (wire S.state K.state streams) (wire S.state K.state result.streams))
+        result.status }
 {
     let LockSettings { lock, settings } = settings;
     match read_lock(alloc, lock.as_str().as_bytes()) {

@@ -1,8 +1,8 @@
 // The parts of a blob, each asked for and received as a frame.
 ghost use Rattle.std.specs.Prelude.{◌≡◌, IfOk, IfErr};
 ghost use Rattle.live_host.specs.Wire.{wire};
-ghost use Rattle.live_check.specs.Parts.{IsPart, TakesFrame, part_of, piece_part, plain_part};
-ghost use Rattle.live_check.specs.Stopped.{Stopped};
+ghost use Rattle.live_pull.specs.Status.{StatusCause};
+ghost use Rattle.live_check.specs.Parts.{IsPart, PartCut, TakeCause, TakesFrame, part_of, piece_part, plain_part};
 
 use crate::heads::more_head;
 use byte_streams::{Sink, Source};
@@ -65,7 +65,8 @@ fn hear_part<S: Source, K: Sink>(
 ) -> Result<Frame, Status>
     ensures heard { IfOk result (λ frame. TakesFrame frame
         (wire S.state K.state streams.old) (wire S.state K.state streams.new)) }
-    ensures cause { IfErr result (λ status. Stopped status (wire S.state K.state streams.new)) }
+    ensures cause { IfErr result (StatusCause (λ e. TakeCause e
+        (wire S.state K.state streams.old) (wire S.state K.state streams.new))) }
 {
     match read_frame(alloc, &mut streams.source, MOST_BYTES) {
         Ok(frame) => Ok(frame),
@@ -84,7 +85,8 @@ pub(crate) fn next_part<S: Source, K: Sink>(
 ) -> Result<Part, Status>
     ensures received { IfOk result (λ part. IsPart part
         (wire S.state K.state streams.old) (wire S.state K.state streams.new)) }
-    ensures cause { IfErr result (λ status. Stopped status (wire S.state K.state streams.new)) }
+    ensures cause { IfErr result (StatusCause (λ e. PartCut e
+        (wire S.state K.state streams.old) (wire S.state K.state streams.new))) }
 {
     let head = more_head(alloc)?;
     tell(alloc, streams, &head, &[])?;

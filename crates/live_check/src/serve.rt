@@ -1,14 +1,17 @@
 // The check of an image, from its settings to its verdict.
-ghost use Rattle.std.specs.Prelude.{◌≡◌, IfOk, IfErr};
+ghost use Rattle.std.specs.Prelude.{◌≡◌, [], IfOk, IfErr};
 ghost use Rattle.cosign_layers.specs.Satisfying.{policy_context};
 ghost use Rattle.cosign_parts.specs.Trust.{trust};
 ghost use Rattle.live_host.specs.Answers.{valid_by, vouched_by};
+ghost use Rattle.live_host.specs.HostErrors.{TellCause};
 ghost use Rattle.live_host.specs.Wire.{wire};
+ghost use Rattle.live_pull.specs.Status.{StatusCause};
 ghost use Rattle.pull_lock.specs.Unlocked.{GivesDocuments};
 ghost use Rattle.call_laws.specs.Blobs.{descriptors_of, range_of};
-ghost use Rattle.live_check.specs.Checked.{AsksAndDecides, BlobsTold, Checked, DecidesAndTells, EndsChecked, NoneTold};
-ghost use Rattle.live_check.specs.Checked.{VerdictOn, status_by};
-ghost use Rattle.live_check.specs.Stopped.{Stopped};
+ghost use Rattle.live_check.specs.Checked.{AsksAndDecides, AsksAndDecidesCut, BlobsCut, BlobsTold, Checked, CheckedCut};
+ghost use Rattle.live_check.specs.Checked.{DecidesBy, NoneTold, VerdictCut, VerdictOn, status_by};
+ghost use Rattle.live_check.specs.Ends.{EndsChecked};
+ghost use Rattle.live_check.specs.Heads.{documents_head};
 
 use crate::blobs::first_fallen;
 use crate::heads::{documents_head, verdict_head};
@@ -51,7 +54,8 @@ fn documents_under(
 fn tell_none<S: Source, K: Sink>(alloc: Global, streams: &mut Streams<S, K>) -> Result<bool, Status>
     ensures told { IfOk result (λ held. NoneTold held
         (wire S.state K.state streams.old) (wire S.state K.state streams.new)) }
-    ensures cause { IfErr result (λ status. Stopped status (wire S.state K.state streams.new)) }
+    ensures cause { IfErr result (StatusCause (λ e. TellCause (documents_head, []) e
+        (wire S.state K.state streams.old) (wire S.state K.state streams.new))) }
 {
     let head = documents_head(alloc)?;
     tell(alloc, streams, &head, &[])?;
@@ -67,7 +71,9 @@ fn tell_blobs<S: Source, K: Sink>(
 ) -> Result<bool, Status>
     ensures told { IfOk result (λ held. BlobsTold (range_of range.first range.end (descriptors_of manifest.now)) held
         (wire S.state K.state streams.old) (wire S.state K.state streams.new)) }
-    ensures cause { IfErr result (λ status. Stopped status (wire S.state K.state streams.new)) }
+    ensures cause { IfErr result (StatusCause (λ e. BlobsCut
+        (range_of range.first range.end (descriptors_of manifest.now)) e
+        (wire S.state K.state streams.old) (wire S.state K.state streams.new))) }
 {
     let fell = first_fallen(alloc, streams, manifest, range)?;
     let head = verdict_head(alloc, &fell)?;
@@ -82,9 +88,10 @@ fn tell_verdict<S: Source, K: Sink>(
     found: &Option<VerifiedDocuments>,
     range: BlobRange,
 ) -> Result<bool, Status>
-    ensures told { IfOk result (λ held. VerdictOn range.first range.end found.now held
+    ensures told { IfOk result (λ held. VerdictOn range.first range.end held found.now
         (wire S.state K.state streams.old) (wire S.state K.state streams.new)) }
-    ensures cause { IfErr result (λ status. Stopped status (wire S.state K.state streams.new)) }
+    ensures cause { IfErr result (StatusCause (λ e. VerdictCut range.first range.end e found.now
+        (wire S.state K.state streams.old) (wire S.state K.state streams.new))) }
 {
     match found {
         Some(documents) => tell_blobs(alloc, streams, &documents.manifest, range),
@@ -108,11 +115,16 @@ fn decide_and_tell<S: Source, K: Sink>(
     entry: &LockEntry,
     range: BlobRange,
 ) -> Result<bool, Status>
-    ensures told { IfOk result (λ held. DecidesAndTells (policy_context terms.now.policy
+    ensures told { IfOk result (λ held. DecidesBy (VerdictOn range.first range.end held)
+        (policy_context terms.now.policy
         (λ b. accepts (b.vtable, b.value)) (trust (valid_by answers.now) (vouched_by answers.now) terms.now.log_keys))
-        terms.now.platform entry.now range.first range.end held
+        terms.now.platform entry.now
         (wire S.state K.state streams.old) (wire S.state K.state streams.new)) }
-    ensures cause { IfErr result (λ status. Stopped status (wire S.state K.state streams.new)) }
+    ensures cause { IfErr result (StatusCause (λ e. DecidesBy (VerdictCut range.first range.end e)
+        (policy_context terms.now.policy
+        (λ b. accepts (b.vtable, b.value)) (trust (valid_by answers.now) (vouched_by answers.now) terms.now.log_keys))
+        terms.now.platform entry.now
+        (wire S.state K.state streams.old) (wire S.state K.state streams.new))) }
 {
     let found = documents_under(alloc, terms, answers, entry)?;
     let held = tell_verdict(alloc, streams, &found, range);
@@ -132,7 +144,10 @@ fn ask_and_decide<S: Source, K: Sink>(
         (λ b. accepts (b.vtable, b.value)) (trust (valid_by answers) (vouched_by answers) terms.now.log_keys))
         terms.now.platform entry.now range.first range.end held
         (wire S.state K.state streams.old) (wire S.state K.state streams.new)) }
-    ensures cause { IfErr result (λ status. Stopped status (wire S.state K.state streams.new)) }
+    ensures cause { IfErr result (StatusCause (λ e. AsksAndDecidesCut (λ answers. policy_context terms.now.policy
+        (λ b. accepts (b.vtable, b.value)) (trust (valid_by answers) (vouched_by answers) terms.now.log_keys))
+        terms.now.platform entry.now range.first range.end e
+        (wire S.state K.state streams.old) (wire S.state K.state streams.new))) }
 {
     let answers = ask_entry(
         alloc,
@@ -161,10 +176,10 @@ fn end_with<S, K>(status: Status, streams: Streams<S, K>) -> Ended<S, K>
     Ended { status, streams }
 }
 
-/// Checks an image that the host has: asks the host about the signature layer of its documents, decides under its answers
-/// whether they hold, asks for each blob of the range, and sends the verdict: that the documents hold and each of these
-/// blobs is the one that the manifest names; or what does not hold first. No request is sent. Returns the exit status,
-/// which is `Pulled` if all hold, and the streams.
+/// Checks an image that the host has: asks the host about the signature layer of its documents, decides under its
+/// answers whether they hold, asks for each blob of the range, and sends the verdict: that the documents hold and each
+/// of these blobs is the one that the manifest names; or what does not hold first. No request is sent. Returns the exit
+/// status, which is `Pulled` if all hold, and the streams.
 pub fn serve_check<S: Source, K: Sink>(
     alloc: Global,
     streams: Streams<S, K>,
@@ -172,7 +187,8 @@ pub fn serve_check<S: Source, K: Sink>(
 ) -> Ended<S, K>
     ensures status { EndsChecked (λ held. Checked settings held
         (wire S.state K.state streams) (wire S.state K.state result.streams))
-        result.status (wire S.state K.state result.streams) }
+        (λ e. CheckedCut settings e (wire S.state K.state streams) (wire S.state K.state result.streams))
+        result.status }
 {
     let constraints = match constraints_from(alloc, settings.settings.constraints.as_slice()) {
         Ok(constraints) => constraints,

@@ -19,8 +19,11 @@ use Rattle.cosign_rows.specs.Refusal.{is_memory}
 use Rattle.cosign_rows.specs.declared.refusal.PullRefusal.{PullRefusal}
 use Rattle.pull_report.specs.Words.{line}
 use Rattle.live_host.specs.Heads.{refused_head}
-use Rattle.live_host.specs.HostErrors.{IsBroken, IsUnwritten}
-use Rattle.live_host.specs.Wire.{Wire, ReceivesFrame, SendsAndReceives, SendsFrame}
+use Rattle.live_host.specs.HostErrors.{SendsPrefix, TellCause}
+use Rattle.live_host.specs.Wire.{Wire, ReceivesFrame, ReceivesNone, SendsAndReceives, SendsFrame}
+use Rattle.live_host.specs.declared.streams.HostError.{HostError}
+use Rattle.live_host.specs.declared.streams.HostError.TheVariants as host
+use Rattle.live_pull.specs.Decided.{LiveDocumentsCut}
 use Rattle.live_pull.specs.Justified.{Shown}
 use Rattle.live_pull.specs.Pulls.{Carries}
 use Rattle.live_pull.specs.declared.status.Status.{Status}
@@ -104,6 +107,11 @@ abbrev pub copy_ran_out : CopyRefusal → Bool
 copy_ran_out (OfTags e) = tags_ran_out e
 copy_ran_out (OfDocuments e) = ran_out e
 
+-- it did not
+abbrev pub IsKept : Result PushReport CopyRefusal → Type 0
+IsKept (Ok report) = Unit {0}
+IsKept (Err e) = copy_ran_out e ≡ false
+
 -- unless memory ran out
 abbrev pub UnlessMemory : Result PushReport DocumentsRefusal → Type 0 → Type 0
 UnlessMemory (Ok report) P = P
@@ -154,29 +162,95 @@ abbrev pub CopyTold : Result PushReport CopyRefusal → Wire → Wire → Type 0
 CopyTold (Ok report) old new = SendsFrame (copied_head report.manifest_url report.pushed) [] old new
 CopyTold (Err e) old new = RefusalTold (refusal_print e) old new
 
+-- why the line of a refusal of this print was not sent
+abbrev pub RefusalCut : List ℕ → HostError → Wire → Wire → Type 0
+RefusalCut print host.Broken old new = ⊥
+RefusalCut print host.Unwritten old new =
+    (report : List ℕ) × IsReport print report × SendsPrefix (refused_head report, []) old new
+RefusalCut print host.WantOfMemory old new = Unit {0}
+
+-- why neither was sent
+abbrev pub OutcomeCut : HostError → Result PushReport CopyRefusal → Wire → Wire → Type 0
+OutcomeCut e (Ok report) old new = TellCause (copied_head report.manifest_url report.pushed, []) e old new
+OutcomeCut e (Err refusal) old new = RefusalCut (refusal_print refusal) e old new
+
 -- ---- all of it
 
--- Documents that hold were decided on and sent, and what follows goes to the target. Unless its tags may be replaced, it
--- was asked what they name; only if they may be pushed, the host carried the blobs and the documents were copied. What
--- became of it was sent.
-pub record LiveCopy (settings : CopySettings) (d : VerifiedDocuments) (r : Result PushReport CopyRefusal)
-    (old new : Wire) : Type 0 where
-  pub image : Reference
+-- what was sent for a result
+abbrev pub Giving : Type 1
+Giving = Result PushReport CopyRefusal → Wire → Wire → Type 0
+
+-- Documents that hold were decided on and sent, and what follows goes to the target of this reference.
+pub record AtSource (settings : CopySettings) (image : Reference) (d : VerifiedDocuments) (old new : Wire)
+    : Type 0 where
   pub reads : reference_of settings.target.reference ≡ Ok image
   pub decided_at : Wire
   pub documents : LiveDocuments settings.settings (Ok d) old decided_at
+  pub side : SendsFrame side_head [] decided_at new
+
+-- Then, unless the target's tags may be replaced, it was asked what they name; only if they may be pushed, the host
+-- carried the blobs and the documents were copied. What became of it was sent, in frames for which `Gives` holds.
+pub record LiveCopyBy (Gives : Giving) (settings : CopySettings) (d : VerifiedDocuments)
+    (r : Result PushReport CopyRefusal) (old new : Wire) : Type 0 where
+  pub image : Reference
   pub side_at : Wire
-  pub side : SendsFrame side_head [] decided_at side_at
+  pub source : AtSource settings image d old side_at
   pub target_at : Wire
   pub target : AtTarget (asks_tags settings) (target_context settings) image settings.target.auth settings.tag d
       (fresh 60) r side_at target_at
-  pub told : CopyTold r target_at new
+  pub given : Gives r target_at new
+
+abbrev pub LiveCopy : CopySettings → VerifiedDocuments → Result PushReport CopyRefusal → Wire → Wire → Type 0
+LiveCopy = LiveCopyBy CopyTold
+
+-- ---- not to its end
+
+-- the documents were decided on and sent, but not that what follows goes to the target
+pub record SideCut (settings : CopySettings) (e : HostError) (old new : Wire) : Type 0 where
+  pub found : VerifiedDocuments
+  pub decided_at : Wire
+  pub documents : LiveDocuments settings.settings (Ok found) old decided_at
+  pub side : TellCause (side_head, []) e decided_at new
+
+-- no frame was received, or one that is not `carried`
+abbrev pub ReceivesOther : Wire → Wire → Type 0
+ReceivesOther old new = ReceivesNone old new ⊎ ((d : Data) × ReceivesFrame d old new × (carried_of d ≡ None))
+
+-- why the host did not reply that it carried the blobs
+abbrev pub CarryCut : HostError → Wire → Wire → Type 0
+CarryCut host.Broken old new = (asked_at : Wire) × SendsFrame carry_head [] old asked_at × ReceivesOther asked_at new
+CarryCut host.Unwritten old new = SendsPrefix (carry_head, []) old new
+CarryCut host.WantOfMemory old new = Unit {0}
+
+-- the target's tags may be pushed, but the host did not reply that it carried the blobs
+pub record Uncarried (asks : Bool) (s : Context) (image : Reference) (a : RegistryAuth) (d : VerifiedDocuments)
+    (k : AuthState) (e : HostError) (old new : Wire) : Type 0 where
+  pub free_at : Wire
+  pub left : AuthState
+  pub free : TagsAsked asks s image a d k left (Ok tt) old free_at
+  pub carry : CarryCut e free_at new
+
+-- the same from the settings on
+pub record CarryingCut (settings : CopySettings) (e : HostError) (old new : Wire) : Type 0 where
+  pub found : VerifiedDocuments
+  pub image : Reference
+  pub side_at : Wire
+  pub source : AtSource settings image found old side_at
+  pub target : Uncarried (asks_tags settings) (target_context settings) image settings.target.auth found (fresh 60) e
+      side_at new
+
+-- all was done, as `Does` says of the result, but this was not sent; it is not that memory ran out
+abbrev pub ResultCut : (Giving → Result PushReport CopyRefusal → Type 0) → HostError → Type 0
+ResultCut Does e = (r : Result PushReport CopyRefusal) × IsKept r × Does (OutcomeCut e) r
+
+-- Why a copy ended before its result was sent: the documents were not decided on, or not all sent; or they were, but one
+-- of the frames that follow them was not sent, or no reply to one was received.
+abbrev pub CopyCut : CopySettings → HostError → Wire → Wire → Type 0
+CopyCut settings e old new = LiveDocumentsCut settings.settings e old new ⊎ (SideCut settings e old new
+    ⊎ (CarryingCut settings e old new
+    ⊎ ((d : VerifiedDocuments) × ResultCut (λ Gives r. LiveCopyBy Gives settings d r old new) e)))
 
 -- ---- how it ends
-
--- at the end no frame was received, or one that is no reply
-abbrev pub IsCopyBroken : Wire → Type 0
-IsCopyBroken new = IsBroken new ⊎ ((old : Wire) × (d : Data) × ReceivesFrame d old new × (carried_of d ≡ None))
 
 -- the documents were refused at the source, or the copy was at the target
 abbrev pub RefusedCopy : CopySettings → Wire → Wire → Type 0
@@ -190,6 +264,6 @@ CopyEnds settings status.Pulled old new =
     (d : VerifiedDocuments) × (report : PushReport) × LiveCopy settings d (Ok report) old new
 CopyEnds settings status.Refused old new = RefusedCopy settings old new
 CopyEnds settings status.UnreadableSettings old new = ⊥
-CopyEnds settings status.HostBroken old new = IsCopyBroken new
-CopyEnds settings status.SinkFault old new = IsUnwritten new
+CopyEnds settings status.HostBroken old new = CopyCut settings host.Broken old new
+CopyEnds settings status.SinkFault old new = CopyCut settings host.Unwritten old new
 CopyEnds settings status.WantOfMemory old new = Unit {0}

@@ -1,10 +1,9 @@
 // What is sent at the end of a copy.
 ghost use Rattle.std.specs.Prelude.{◌≡◌, Ok, Err, IfErr, IfOk, OnOk};
-ghost use Rattle.live_host.specs.HostErrors.{HostCause};
 ghost use Rattle.live_host.specs.Wire.{wire};
-ghost use Rattle.live_copy.specs.Course.{CopyTold, IsReport, OfDocuments, OfTags, RefusalTold, copied_of, ran_out};
-ghost use Rattle.live_copy.specs.Course.{tags_ran_out};
-ghost use Rattle.live_copy.specs.Parts.{EndsBy, EndsTelling};
+ghost use Rattle.live_copy.specs.Course.{CopyTold, IsReport, OfDocuments, OfTags, OutcomeCut, RefusalCut, RefusalTold};
+ghost use Rattle.live_copy.specs.Course.{copied_of, ran_out, tags_ran_out};
+ghost use Rattle.live_copy.specs.Parts.{Delivers, EndsTelling};
 
 use crate::TargetRefusal;
 use crate::heads::copied_head;
@@ -35,7 +34,8 @@ fn give_refusal<S: Source, K: Sink, R: Printed>(
 ) -> Result<(), HostError>
     ensures told { OnOk result (RefusalTold (R.print refusal.now)
         (wire S.state K.state streams.old) (wire S.state K.state streams.new)) }
-    ensures cause { IfErr result (λ e. HostCause e (wire S.state K.state streams.new)) }
+    ensures cause { IfErr result (λ e. RefusalCut (R.print refusal.now) e
+        (wire S.state K.state streams.old) (wire S.state K.state streams.new)) }
 {
     let report = report_of(alloc, refusal)?;
     let head = refused_head(alloc, report.as_str())?;
@@ -64,7 +64,8 @@ fn give_report<S: Source, K: Sink>(
 ) -> Result<(), HostError>
     ensures told { OnOk result (CopyTold (Ok report.now)
         (wire S.state K.state streams.old) (wire S.state K.state streams.new)) }
-    ensures cause { IfErr result (λ e. HostCause e (wire S.state K.state streams.new)) }
+    ensures cause { IfErr result (λ e. OutcomeCut e (Ok report.now)
+        (wire S.state K.state streams.old) (wire S.state K.state streams.new)) }
 {
     let head = copied_head(alloc, &report.manifest_url, &report.pushed)?;
     tell(alloc, streams, &head, &[])?;
@@ -96,9 +97,8 @@ fn deliver_report<S: Source, K: Sink>(
     streams: &mut Streams<S, K>,
     report: &PushReport,
 ) -> Status
-    ensures { EndsBy (λ r. (r ≡ Ok report.now) × CopyTold r
-        (wire S.state K.state streams.old) (wire S.state K.state streams.new))
-        result (wire S.state K.state streams.new) }
+    ensures { Delivers (Ok report.now) result
+        (wire S.state K.state streams.old) (wire S.state K.state streams.new) }
 {
     match give_report(alloc, streams, report) {
         Ok(()) => Status::Pulled,
@@ -111,9 +111,8 @@ fn deliver_refusal<S: Source, K: Sink>(
     streams: &mut Streams<S, K>,
     refusal: &DocumentsRefusal,
 ) -> Status
-    ensures { EndsBy (λ r. (r ≡ Err (OfDocuments refusal.now)) × CopyTold r
-        (wire S.state K.state streams.old) (wire S.state K.state streams.new))
-        result (wire S.state K.state streams.new) }
+    ensures { Delivers (Err (OfDocuments refusal.now)) result
+        (wire S.state K.state streams.old) (wire S.state K.state streams.new) }
 {
     if ran_out(refusal) {
         return Status::WantOfMemory;
@@ -127,9 +126,8 @@ pub(crate) fn deliver_taken<S: Source, K: Sink>(
     streams: &mut Streams<S, K>,
     refusal: &TargetRefusal,
 ) -> Status
-    ensures { EndsBy (λ r. (r ≡ Err (OfTags refusal.now)) × CopyTold r
-        (wire S.state K.state streams.old) (wire S.state K.state streams.new))
-        result (wire S.state K.state streams.new) }
+    ensures { Delivers (Err (OfTags refusal.now)) result
+        (wire S.state K.state streams.old) (wire S.state K.state streams.new) }
 {
     if tags_ran_out(refusal) {
         return Status::WantOfMemory;
@@ -143,9 +141,8 @@ pub(crate) fn deliver<S: Source, K: Sink>(
     streams: &mut Streams<S, K>,
     outcome: &Result<PushReport, DocumentsRefusal>,
 ) -> Status
-    ensures { EndsBy (λ r. (r ≡ copied_of outcome.now) × CopyTold r
-        (wire S.state K.state streams.old) (wire S.state K.state streams.new))
-        result (wire S.state K.state streams.new) }
+    ensures { Delivers (copied_of outcome.now) result
+        (wire S.state K.state streams.old) (wire S.state K.state streams.new) }
 {
     match outcome {
         Ok(report) => deliver_report(alloc, streams, report),

@@ -2,14 +2,15 @@
 ghost use Rattle.std.specs.Prelude.{◌≡◌, [], codes, Err, IfErr, Ok, OnOk, is_some};
 ghost use Rattle.live_host.specs.Names.{frame_named};
 ghost use Rattle.live_host.specs.Wire.{wire, SendsAndReceives, Wire};
+ghost use Rattle.live_pull.specs.Course.{DocumentsCut, DocumentsTold};
+ghost use Rattle.live_pull.specs.Decided.{DecidedDocuments, Decides, Undecided};
 ghost use Rattle.live_pull.specs.Parts.{DeliversBy};
-ghost use Rattle.live_pull.specs.Course.{DocumentsTold};
-ghost use Rattle.live_pull.specs.Decided.{DecidedDocuments, Decides};
-ghost use Rattle.live_copy.specs.Course.{CopyEnds, CopyTold, OfTags};
+ghost use Rattle.live_pull.specs.Status.{StatusCause};
+ghost use Rattle.live_copy.specs.Course.{CarryCut, CopyEnds, OfTags};
 ghost use Rattle.live_copy.specs.Heads.{carried_of, carry_head};
 ghost use Rattle.live_copy.specs.Opening.{Opens};
-ghost use Rattle.live_copy.specs.Parts.{CarriedAndPushed, EndsBefore, EndsBy, HandedAndTold, HandedOver};
-ghost use Rattle.live_copy.specs.Parts.{PushedAndTold, TargetAndTold};
+ghost use Rattle.live_copy.specs.Parts.{CarriedAndPushed, Delivers, EndsBy, FoundCut, HandCut, HandedAndGiven};
+ghost use Rattle.live_copy.specs.Parts.{HandedOver, PushedAndGiven, TargetAndGiven, UncarriedBy};
 ghost use Rattle.live_copy.specs.Settings.{AreReady};
 ghost use Rattle.live_copy.specs.declared.settings.CopySettings.{CopySettings as Settings};
 
@@ -61,7 +62,8 @@ fn await_carried<S: Source, K: Sink>(
 ) -> Result<(), Status>
     ensures carried { OnOk result (SendsAndReceives carry_head [] carried_of tt
         (wire S.state K.state streams.old) (wire S.state K.state streams.new)) }
-    ensures cause { IfErr result (λ s. EndsBefore s (wire S.state K.state streams.new)) }
+    ensures cause { IfErr result (StatusCause (λ e. CarryCut e
+        (wire S.state K.state streams.old) (wire S.state K.state streams.new))) }
 {
     let head = carry_head(alloc)?;
     tell(alloc, streams, &head, &[])?;
@@ -80,7 +82,8 @@ fn hand_over<S: Source, K: Sink>(
 ) -> Result<(), Status>
     ensures handed { OnOk result (HandedOver found.now
         (wire S.state K.state streams.old) (wire S.state K.state streams.new)) }
-    ensures cause { IfErr result (λ s. EndsBefore s (wire S.state K.state streams.new)) }
+    ensures cause { IfErr result (StatusCause (λ e. HandCut found.now e
+        (wire S.state K.state streams.old) (wire S.state K.state streams.new))) }
 {
     give_decided(alloc, streams, found)?;
     let side = side_head(alloc)?;
@@ -95,9 +98,9 @@ fn push_and_tell<S: Source, K: Sink>(
     opened: &mut Opened,
     found: &VerifiedDocuments,
 ) -> Ended<S, K>
-    ensures { EndsBy (PushedAndTold opened.old found.now
+    ensures { EndsBy (λ Gives. PushedAndGiven Gives opened.old found.now
         (wire S.state K.state streams) (wire S.state K.state result.streams))
-        result.status (wire S.state K.state result.streams) }
+        (λ e. ⊥) result.status }
 {
     let (mut streams, outcome) = push(alloc, streams, opened, found);
     let status = deliver(alloc, &mut streams, &outcome);
@@ -112,9 +115,9 @@ fn carry_and_push<S: Source, K: Sink>(
     opened: &mut Opened,
     found: &VerifiedDocuments,
 ) -> Ended<S, K>
-    ensures { EndsBy (CarriedAndPushed opened.old found.now
+    ensures { EndsBy (λ Gives. CarriedAndPushed Gives opened.old found.now
         (wire S.state K.state streams) (wire S.state K.state result.streams))
-        result.status (wire S.state K.state result.streams) }
+        (λ e. CarryCut e (wire S.state K.state streams) (wire S.state K.state result.streams)) result.status }
 {
     let mut streams = streams;
     match await_carried(alloc, &mut streams) {
@@ -129,9 +132,8 @@ fn end_taken<S: Source, K: Sink>(
     streams: Streams<S, K>,
     refusal: TargetRefusal,
 ) -> Ended<S, K>
-    ensures { EndsBy (λ r. (r ≡ Err (OfTags refusal)) × CopyTold r
-        (wire S.state K.state streams) (wire S.state K.state result.streams))
-        result.status (wire S.state K.state result.streams) }
+    ensures { Delivers (Err (OfTags refusal)) result.status
+        (wire S.state K.state streams) (wire S.state K.state result.streams) }
 {
     let mut streams = streams;
     let status = deliver_taken(alloc, &mut streams, &refusal);
@@ -146,9 +148,10 @@ fn ask_and_copy<S: Source, K: Sink>(
     opened: &mut Opened,
     found: &VerifiedDocuments,
 ) -> Ended<S, K>
-    ensures { EndsBy (TargetAndTold opened.old found.now
+    ensures { EndsBy (λ Gives. TargetAndGiven Gives opened.old found.now
         (wire S.state K.state streams) (wire S.state K.state result.streams))
-        result.status (wire S.state K.state result.streams) }
+        (λ e. UncarriedBy opened.old found.now e
+        (wire S.state K.state streams) (wire S.state K.state result.streams)) result.status }
 {
     let (streams, outcome) = ask(alloc, streams, opened, found);
     match outcome {
@@ -164,9 +167,10 @@ fn copy_found<S: Source, K: Sink>(
     opened: &mut Opened,
     found: &VerifiedDocuments,
 ) -> Ended<S, K>
-    ensures { EndsBy (HandedAndTold opened.old found.now
+    ensures { EndsBy (λ Gives. HandedAndGiven Gives opened.old found.now
         (wire S.state K.state streams) (wire S.state K.state result.streams))
-        result.status (wire S.state K.state result.streams) }
+        (λ e. FoundCut opened.old found.now e
+        (wire S.state K.state streams) (wire S.state K.state result.streams)) result.status }
 {
     let mut streams = streams;
     match hand_over(alloc, &mut streams, found) {
@@ -181,9 +185,10 @@ fn copy_decided<S: Source, K: Sink>(
     opened: &mut Opened,
     documents: VerifiedDocuments,
 ) -> Ended<S, K>
-    ensures { EndsBy (HandedAndTold opened.old documents
+    ensures { EndsBy (λ Gives. HandedAndGiven Gives opened.old documents
         (wire S.state K.state streams) (wire S.state K.state result.streams))
-        result.status (wire S.state K.state result.streams) }
+        (λ e. FoundCut opened.old documents e
+        (wire S.state K.state streams) (wire S.state K.state result.streams)) result.status }
 {
     let ended = copy_found(alloc, streams, opened, &documents);
     drop_documents(documents);
@@ -196,7 +201,7 @@ fn end_refused<S: Source, K: Sink>(
     streams: Streams<S, K>,
     refusal: PullRefusal,
 ) -> Ended<S, K>
-    ensures { DeliversBy DocumentsTold (Err refusal) result.status
+    ensures { DeliversBy DocumentsTold DocumentsCut (Err refusal) result.status
         (wire S.state K.state streams) (wire S.state K.state result.streams) }
 {
     let mut streams = streams;
@@ -214,7 +219,7 @@ fn follow_decision<S: Source, K: Sink>(
 ) -> Ended<S, K>
     ensures { (settings : Settings) (begun : Wire) → Opens settings opened.old
         → Decides (λ r. DecidedDocuments settings.settings r begun (wire S.state K.state streams))
-        (Ok outcome) (wire S.state K.state streams)
+        (λ e. Undecided settings.settings e begun (wire S.state K.state streams)) (Ok outcome)
         → CopyEnds settings result.status begun (wire S.state K.state result.streams) }
 {
     match outcome {
@@ -231,7 +236,7 @@ fn follow<S: Source, K: Sink>(
 ) -> Ended<S, K>
     ensures { (settings : Settings) (begun : Wire) → Opens settings opened.old
         → Decides (λ r. DecidedDocuments settings.settings r begun (wire S.state K.state decided.streams))
-        decided.outcome (wire S.state K.state decided.streams)
+        (λ e. Undecided settings.settings e begun (wire S.state K.state decided.streams)) decided.outcome
         → CopyEnds settings result.status begun (wire S.state K.state result.streams) }
 {
     let Decided { streams, outcome } = decided;

@@ -1,3 +1,4 @@
+pub mod Causes
 pub mod FrameWords
 pub mod FramesIn
 pub mod FramesOut

@@ -14,7 +14,7 @@ use Rattle.cosign_parts.specs.declared.certificate.Vouched.{Vouched}
 use Rattle.cosign_parts.specs.declared.layer.SignatureLayer.{SignatureLayer}
 use Rattle.cosign_parts.specs.declared.log_entry.LogEntryBundle.{LogEntryBundle}
 use Rattle.live_host.specs.Wire.{Wire}
-use Rattle.live_host.specs.Questions.{WasAsked, WereAsked, AsksMore, IsAmong, KeyAsked, VouchedAsked, CertificateAsked, SignatureAsked, LogAsked, LayerAsked, evidence_at}
+use Rattle.live_host.specs.Questions.{WasAsked, WereAsked, AsksMore, IsAmong, KeyAsked, VouchedAsked, SignatureAsked, LogAsked, LayerAsked, evidence_at}
 use Rattle.live_host.specs.declared.answers.HostAnswer.{HostAnswer}
 
 pub were_more : (xs ys : List HostAnswer) (a b c : Wire) → WereAsked xs a b → WereAsked ys b c → WereAsked (xs ++ ys) a c

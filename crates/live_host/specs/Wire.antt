@@ -27,10 +27,10 @@ abbrev pub ReceivesFrame : Data → Wire → Wire → Type 0
 ReceivesFrame head old new = (text : List ℕ) × Takes text old.source new.source
     × IsFrame 0 (record { head = head; bytes = [] }) text × (new.sink ≡ old.sink)
 
--- no frame without bytes was received: the source failed or ended, or the line is malformed
+-- no frame without bytes was received: the source failed or ended, or the line is malformed; and nothing was sent
 abbrev pub ReceivesNone : Wire → Wire → Type 0
 ReceivesNone old new = (e : FrameError) × (text : List ℕ) × Takes text old.source new.source
-    × Stops 0 e text old.source new.source × (e ≡ WantOfMemory → ⊥)
+    × Stops 0 e text old.source new.source × (e ≡ WantOfMemory → ⊥) × (new.sink ≡ old.sink)
 
 -- this frame was sent, and then a frame was received that parses as `x`
 pub record SendsAndReceives {X : Type 0} (head : Data) (bytes : List ℕ) (reads : Data → Option X) (x : X)

@@ -1,7 +1,7 @@
 // Sending the documents of an image.
 ghost use Rattle.std.specs.Prelude.{◌≡◌, IfErr, OnOk};
 ghost use Rattle.live_host.specs.Heads.{kind_name};
-ghost use Rattle.live_host.specs.HostErrors.{HostCause};
+ghost use Rattle.live_host.specs.HostErrors.{GiveCause, TellCause};
 ghost use Rattle.live_host.specs.Wire.{wire, SendsFrame};
 ghost use Rattle.live_host.specs.Items.{WereTold, decided_sent, documents_sent, signature_sent};
 
@@ -30,7 +30,8 @@ fn give_signature<S: Source, K: Sink>(
 ) -> Result<(), HostError>
     ensures told { OnOk result (SendsFrame (signature_sent layer.now).0 (signature_sent layer.now).1
         (wire S.state K.state streams.old) (wire S.state K.state streams.new)) }
-    ensures cause { IfErr result (λ e. HostCause e (wire S.state K.state streams.new)) }
+    ensures cause { IfErr result (λ e. TellCause (signature_sent layer.now) e
+        (wire S.state K.state streams.old) (wire S.state K.state streams.new)) }
 {
     let head = signature_head(
         alloc,
@@ -51,7 +52,8 @@ pub fn give_documents<S: Source, K: Sink>(
 ) -> Result<(), HostError>
     ensures told { OnOk result (WereTold (documents_sent documents.now)
         (wire S.state K.state streams.old) (wire S.state K.state streams.new)) }
-    ensures cause { IfErr result (λ e. HostCause e (wire S.state K.state streams.new)) }
+    ensures cause { IfErr result (λ e. GiveCause (documents_sent documents.now) e
+        (wire S.state K.state streams.old) (wire S.state K.state streams.new)) }
 {
     give_index(alloc, streams, &documents.list_digest, &documents.first)?;
     give_manifest(
@@ -72,7 +74,8 @@ pub fn give_end<S: Source, K: Sink>(
 ) -> Result<(), HostError>
     ensures told { OnOk result (SendsFrame (decided_sent documents.now).0 (decided_sent documents.now).1
         (wire S.state K.state streams.old) (wire S.state K.state streams.new)) }
-    ensures cause { IfErr result (λ e. HostCause e (wire S.state K.state streams.new)) }
+    ensures cause { IfErr result (λ e. TellCause (decided_sent documents.now) e
+        (wire S.state K.state streams.old) (wire S.state K.state streams.new)) }
 {
     let head = pulled_head(
         alloc,

@@ -1,6 +1,6 @@
 // Sending an image.
 ghost use Rattle.std.specs.Prelude.{IfErr, OnOk};
-ghost use Rattle.live_host.specs.HostErrors.{HostCause};
+ghost use Rattle.live_host.specs.HostErrors.{GiveCause, TellCause};
 ghost use Rattle.live_host.specs.Wire.{wire, SendsFrame};
 ghost use Rattle.live_host.specs.Items.{WereTold, blobs_sent, config_sent, image_sent};
 
@@ -18,7 +18,8 @@ fn give_config<S: Source, K: Sink>(
 ) -> Result<(), HostError>
     ensures told { OnOk result (SendsFrame (config_sent image.now).0 (config_sent image.now).1
         (wire S.state K.state streams.old) (wire S.state K.state streams.new)) }
-    ensures cause { IfErr result (λ e. HostCause e (wire S.state K.state streams.new)) }
+    ensures cause { IfErr result (λ e. TellCause (config_sent image.now) e
+        (wire S.state K.state streams.old) (wire S.state K.state streams.new)) }
 {
     let config = &image.config;
     let digest = &image.manifest.config.digest;
@@ -43,7 +44,8 @@ fn give_blobs<S: Source, K: Sink>(
 ) -> Result<(), HostError>
     ensures told { OnOk result (WereTold (blobs_sent blobs image.now) (wire S.state K.state streams.old)
         (wire S.state K.state streams.new)) }
-    ensures cause { IfErr result (λ e. HostCause e (wire S.state K.state streams.new)) }
+    ensures cause { IfErr result (λ e. GiveCause (blobs_sent blobs image.now) e
+        (wire S.state K.state streams.old) (wire S.state K.state streams.new)) }
 {
     if !blobs {
         return Ok(());
@@ -62,7 +64,8 @@ pub fn give_image<S: Source, K: Sink>(
 ) -> Result<(), HostError>
     ensures told { OnOk result
         (WereTold (image_sent blobs image.now) (wire S.state K.state streams.old) (wire S.state K.state streams.new)) }
-    ensures cause { IfErr result (λ e. HostCause e (wire S.state K.state streams.new)) }
+    ensures cause { IfErr result (λ e. GiveCause (image_sent blobs image.now) e
+        (wire S.state K.state streams.old) (wire S.state K.state streams.new)) }
 {
     give_index(alloc, streams, &image.list_digest, &image.first)?;
     give_manifest(

@@ -6,7 +6,7 @@ ghost use Rattle.cosign_parts.specs.LogEntry.{log_text};
 ghost use Rattle.live_host.specs.Heads.{verify_head, judge_head};
 ghost use Rattle.live_host.specs.Questions.{verified_of, vouched_of, answer_of, AsksMore, WereAsked};
 ghost use Rattle.live_host.specs.Questions.{evidence_at, CertificateAsked, KeyAsked, LayerAsked, LogAsked};
-ghost use Rattle.live_host.specs.HostErrors.{HostCause};
+ghost use Rattle.live_host.specs.HostErrors.{AskCause, AsksCause, about_certificate, about_key};
 ghost use Rattle.live_host.specs.Wire.{wire, SendsAndReceives};
 
 use crate::answers::{Answers, CertificateAnswer, HostAnswer, SignatureAnswer};
@@ -78,7 +78,8 @@ fn ask_signature<S: Source, K: Sink>(
     ensures asked { IfOk result
         (λ valid. SendsAndReceives (verify_head key.now signature.now (length message.now)) message.now
         verified_of valid (wire S.state K.state streams.old) (wire S.state K.state streams.new)) }
-    ensures cause { IfErr result (λ e. HostCause e (wire S.state K.state streams.new)) }
+    ensures cause { IfErr result (λ e. AskCause (about_key key.now message.now signature.now) e
+        (wire S.state K.state streams.old) (wire S.state K.state streams.new)) }
 {
     let head = verify_head(alloc, key, signature, message)?;
     tell(alloc, streams, &head, message.as_slice())?;
@@ -96,7 +97,8 @@ fn ask_certificate<S: Source, K: Sink>(
     ensures asked { IfOk result (λ vouched. SendsAndReceives
         (judge_head evidence.now.certificate evidence.now.integrated_time) [] answer_of vouched
         (wire S.state K.state streams.old) (wire S.state K.state streams.new)) }
-    ensures cause { IfErr result (λ e. HostCause e (wire S.state K.state streams.new)) }
+    ensures cause { IfErr result (λ e. AskCause (about_certificate evidence.now) e
+        (wire S.state K.state streams.old) (wire S.state K.state streams.new)) }
 {
     let head = judge_head(alloc, evidence)?;
     tell(alloc, streams, &head, &[])?;
@@ -157,7 +159,8 @@ fn ask_key<S: Source, K: Sink>(
     ensures asked { OnOk result (AsksMore answers.old answers.new
         (wire S.state K.state streams.old) (wire S.state K.state streams.new)) }
     ensures about { OnOk result (KeyAsked answers.new message.now signature.now key.now) }
-    ensures cause { IfErr result (λ e. HostCause e (wire S.state K.state streams.new)) }
+    ensures cause { IfErr result (λ e. AsksCause e
+        (wire S.state K.state streams.old) (wire S.state K.state streams.new)) }
 {
     let valid = ask_signature(alloc, streams, key, message, signature)?;
     let answer = signature_answer(alloc, key, message, signature, valid)?;
@@ -177,7 +180,8 @@ fn ask_keys<S: Source, K: Sink>(
     ensures asked { OnOk result
         (AsksMore answers.old answers.new (wire S.state K.state streams.old) (wire S.state K.state streams.new)) }
     ensures about { OnOk result (All (KeyAsked answers.new message.now signature.now) keys.now) }
-    ensures cause { IfErr result (λ e. HostCause e (wire S.state K.state streams.new)) }
+    ensures cause { IfErr result (λ e. AsksCause e
+        (wire S.state K.state streams.old) (wire S.state K.state streams.new)) }
 {
     for key in keys {
         ask_key(alloc, streams, key, message, signature, answers)?;
@@ -197,7 +201,8 @@ fn ask_vouched<S: Source, K: Sink>(
     ensures asked { OnOk result
         (AsksMore answers.old answers.new (wire S.state K.state streams.old) (wire S.state K.state streams.new)) }
     ensures about { OnOk result (CertificateAsked answers.new message.now signature.now evidence.now) }
-    ensures cause { IfErr result (λ e. HostCause e (wire S.state K.state streams.new)) }
+    ensures cause { IfErr result (λ e. AsksCause e
+        (wire S.state K.state streams.old) (wire S.state K.state streams.new)) }
 {
     let vouched = ask_certificate(alloc, streams, evidence)?;
     let answer = certificate_answer(alloc, evidence, &vouched)?;
@@ -220,7 +225,8 @@ fn ask_log<S: Source, K: Sink>(
     ensures asked { OnOk result (AsksMore answers.old answers.new
         (wire S.state K.state streams.old) (wire S.state K.state streams.new)) }
     ensures about { OnOk result (LogAsked answers.new log_keys.now layer.now.bundle) }
-    ensures cause { IfErr result (λ e. HostCause e (wire S.state K.state streams.new)) }
+    ensures cause { IfErr result (λ e. AsksCause e
+        (wire S.state K.state streams.old) (wire S.state K.state streams.new)) }
 {
     let Some(entry) = &layer.bundle else {
         return Ok(());
@@ -277,7 +283,8 @@ fn ask_layer<S: Source, K: Sink>(
     ensures asked { OnOk result (AsksMore answers.old answers.new
         (wire S.state K.state streams.old) (wire S.state K.state streams.new)) }
     ensures about { OnOk result (LayerAsked answers.new keys.now log_keys.now layer.now) }
-    ensures cause { IfErr result (λ e. HostCause e (wire S.state K.state streams.new)) }
+    ensures cause { IfErr result (λ e. AsksCause e
+        (wire S.state K.state streams.old) (wire S.state K.state streams.new)) }
 {
     let Some(signature) = decode_base64(alloc, layer.signature.as_str())? else {
         return Ok(());
@@ -305,7 +312,8 @@ pub fn ask_layers<S: Source, K: Sink>(
     ensures asked { IfOk result (λ answers. WereAsked answers.list (wire S.state K.state streams.old)
         (wire S.state K.state streams.new)) }
     ensures about { IfOk result (λ answers. All (LayerAsked answers.list keys.now log_keys.now) layers.now) }
-    ensures cause { IfErr result (λ e. HostCause e (wire S.state K.state streams.new)) }
+    ensures cause { IfErr result (λ e. AsksCause e
+        (wire S.state K.state streams.old) (wire S.state K.state streams.new)) }
 {
     let mut list = List::new(alloc);
     for layer in layers {

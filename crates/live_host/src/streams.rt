@@ -1,10 +1,10 @@
 // The two streams between a program and its host, and frames over them that are not requests.
-ghost use Rattle.std.specs.Prelude.{◌≡◌, false, IfOk, IfErr, OnOk, IsErrOf};
+ghost use Rattle.std.specs.Prelude.{◌≡◌, false, IfOk, IfErr, OnOk, OnErr, IsErrOf};
 ghost use Rattle.serde_json.specs.Written.{has_float};
 ghost use Rattle.json_values.specs.Counts.{Increased};
-ghost use Rattle.byte_streams.specs.SinkState.{Adds};
+ghost use Rattle.byte_streams.specs.SinkState.{Adds, AddsPrefix};
 ghost use Rattle.live_link.specs.Writing.{frame_text};
-ghost use Rattle.live_host.specs.HostErrors.{HostCause};
+ghost use Rattle.live_host.specs.HostErrors.{HearCause, TellCause};
 ghost use Rattle.live_host.specs.Wire.{wire, ReceivesFrame, SendsFrame};
 
 use byte_streams::{Sink, SinkError, Source, put_all};
@@ -83,6 +83,7 @@ fn put_frame<K: Sink>(
 ) -> Result<(), SinkError>
     requires plain { has_float head.now ≡ false }
     ensures whole { OnOk result (Adds (frame_text head.now bytes.now) (K.state sink.old) (K.state sink.new)) }
+    ensures part { OnErr result (AddsPrefix (frame_text head.now bytes.now) (K.state sink.old) (K.state sink.new)) }
     ensures fault { IsErrOf result SinkError.Failed
         → Increased (K.state sink.old).faults (K.state sink.new).faults }
 {
@@ -101,7 +102,8 @@ pub fn tell<S: Source, K: Sink>(
     requires plain { has_float head.now ≡ false }
     ensures told { OnOk result (SendsFrame head.now bytes.now
         (wire S.state K.state streams.old) (wire S.state K.state streams.new)) }
-    ensures cause { IfErr result (λ e. HostCause e (wire S.state K.state streams.new)) }
+    ensures cause { IfErr result (λ e. TellCause (head.now, bytes.now) e
+        (wire S.state K.state streams.old) (wire S.state K.state streams.new)) }
 {
     match put_frame(alloc, &mut streams.sink, head, bytes) {
         Ok(()) => Ok(()),
@@ -117,7 +119,8 @@ pub fn hear<S: Source, K: Sink>(
 ) -> Result<Json, HostError>
     ensures heard { IfOk result (λ head. ReceivesFrame head
         (wire S.state K.state streams.old) (wire S.state K.state streams.new)) }
-    ensures cause { IfErr result (λ e. HostCause e (wire S.state K.state streams.new)) }
+    ensures cause { IfErr result (λ e. HearCause e
+        (wire S.state K.state streams.old) (wire S.state K.state streams.new)) }
 {
     match read_frame(alloc, &mut streams.source, 0) {
         Ok(frame) => Ok(frame.head),

@@ -12,7 +12,7 @@ use Rattle.live_link.specs.Asking.{Asked, Asks, unsent, head_after, piece_after,
 use Rattle.live_link.specs.Bodies.{body_in}
 use Rattle.live_link.specs.Requests.{request_text, more_text}
 use Rattle.live_link.specs.Transcript.{IsReply, UnansweredTurn, TurnBy, Turn, Transcript}
-use Rattle.live_link.specs.State.{is_open, breach_in, exchange_in, ends_answered, IsFront, SentLast, a_piece, a_request, Held, HeldAt}
+use Rattle.live_link.specs.State.{is_open, breach_in, exchange_in, ends_answered, IsPrefix, SentLast, a_piece, a_request, Held, HeldAt}
 use Rattle.live_link.specs.declared.replies.Reply.{Reply}
 use Rattle.live_link.specs.declared.replies.Reply.TheVariants.{Answer, Piece, End, Failed, Other}
 use Rattle.live_link.specs.declared.stage.Breach.{Breach}
@@ -27,7 +27,7 @@ left_after None b came xs is taken = absurd (cc is)
 left_after (Some zs) None came xs is taken = absurd taken
 left_after (Some zs) (Some ys) came xs is taken = (ys, refl, sym (ap (λ o. unwrap_or o []) is) ∙ taken)
 
-whole_front : (text : List ℕ) → IsFront text text
+whole_front : (text : List ℕ) → IsPrefix text text
 whole_front text = ([], sym (append-nil text))
 
 -- nothing was sent outside the frames
@@ -114,7 +114,7 @@ turned_more taken left reply k l s t c step answered asked =
 
 -- a prefix of the request for a piece was sent, and is lost with whatever was received
 lost : (taken left front came : List ℕ) (k l : SinkState) (s t : SourceState) (c : List Exchange) (breach : Breach)
-    → InStep taken left k s c → Adds front k l → IsFront front more_text → Takes came s t → Held taken left l t (Some breach) c
+    → InStep taken left k s c → Adds front k l → IsPrefix front more_text → Takes came s t → Held taken left l t (Some breach) c
 lost taken left front came k l s t c breach step sent is got =
     let rest = left_after s.left t.left came step.after step.leaves got in
     record {
@@ -133,7 +133,7 @@ lost taken left front came k l s t c breach step sent is got =
 
 -- the same of a request, which is an exchange without a response
 lost_request : (taken left front came : List ℕ) (k l : SinkState) (s t : SourceState) (c : List Exchange) (e : Exchange) (breach : Breach) → e.answer ≡ None
-    → InStep taken left k s c → Adds front k l → IsFront front (request_text e.request) → Takes came s t → Held taken left l t (Some breach) (c ++ e ∷ [])
+    → InStep taken left k s c → Adds front k l → IsPrefix front (request_text e.request) → Takes came s t → Held taken left l t (Some breach) (c ++ e ∷ [])
 lost_request taken left front came k l s t c e breach none step sent is got =
     let rest = left_after s.left t.left came step.after step.leaves got in
     record {
@@ -216,7 +216,7 @@ refused taken left k l s t c request faults step asked =
 
 -- the streams broke
 broke : (taken left front came : List ℕ) (k l : SinkState) (s t : SourceState) (c : List Exchange) (request : Request) (faults : ℕ) (breach : Breach)
-    → InStep taken left k s c → Adds front k l → IsFront front (request_text request) → Takes came s t
+    → InStep taken left k s c → Adds front k l → IsPrefix front (request_text request) → Takes came s t
     → HeldAt taken left l t (Broken breach) (c ++ exchange_in t.left (request, heard_of None faults) ∷ [])
 broke taken left front came k l s t c request faults breach step sent is got = record {
   held = lost_request taken left front came k l s t c (exchange_in t.left (request, heard_of None faults)) breach refl step sent is got;

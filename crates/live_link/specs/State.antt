@@ -86,15 +86,15 @@ rest_in Cut left = Some []
 rest_in (Broken why) left = Some []
 
 -- a prefix of this text
-abbrev pub IsFront : List ℕ → List ℕ → Type 0
-IsFront front text = (rest : List ℕ) × text ≡ front ++ rest
+abbrev pub IsPrefix : List ℕ → List ℕ → Type 0
+IsPrefix front text = (rest : List ℕ) × text ≡ front ++ rest
 
 -- what was sent last, outside the frames of these exchanges: a prefix of one frame, which requests a piece, or one of the
 -- exchanges without a response
 pub data SentLast (c : List Exchange) (front : List ℕ) : Type 0 where
-  a_piece : IsFront front more_text → SentLast c front
+  a_piece : IsPrefix front more_text → SentLast c front
   a_request : (before after : List Exchange) (e : Exchange) → c ≡ before ++ e ∷ after → e.answer ≡ None
-      → IsFront front (request_text e.request) → SentLast c front
+      → IsPrefix front (request_text e.request) → SentLast c front
 
 -- All that was sent and received since, if source and sink exposed their bytes: the frames of these exchanges and, if
 -- something broke the streams, bytes outside of them after them: of those sent, a prefix of one frame.

@@ -1,35 +1,26 @@
 -- A call by a transport over the streams, by the frames that carried it.
 use Rattle.std.proofs.Common.{◌≡◌, ℕ, List, [], ◌∷◌, Option, Some, Result, Ok, Err, refl, ◌∙◌, subst}
-use Rattle.std.specs.Prelude.{IfOk, IfErr}
+use Rattle.std.specs.Prelude.{IfOk}
 use Rattle.byte_streams.specs.SinkState.{SinkState}
 use Rattle.byte_streams.specs.Source.{SourceState}
 use Rattle.oci_transport.specs.Link.{Link, Extends}
 use Rattle.oci_transport.specs.declared.message.Exchange.{Exchange}
 use Rattle.oci_protocol.specs.Proto.{Proto}
 use Rattle.oci_protocol.specs.Runs.{Runs, Performs, Meets, Told}
-use Rattle.oci_names.specs.declared.reference.Reference.{Reference}
-use Rattle.oci_auth.specs.declared.auth.RegistryAuth.{RegistryAuth}
-use Rattle.engine_terms.specs.Contexts.{Context}
 use Rattle.registry_calls.specs.Clients.{Kept, Row}
 use Rattle.registry_calls.specs.Error.{is_memory as of_memory}
 use Rattle.registry_calls.specs.declared.error.SigstoreError.{SigstoreError}
-use Rattle.cosign_layers.specs.Satisfying.{PolicyContext}
 use Rattle.cosign_parts.specs.declared.layer.SignatureLayer.{SignatureLayer}
-use Rattle.cosign_chain.specs.Chain.{Chain}
-use Rattle.cosign_chain.specs.declared.image.VerifiedImage.{VerifiedImage}
-use Rattle.cosign_rows.specs.Causes.{PullCause}
-use Rattle.cosign_rows.specs.Snapshots.{snapshot}
 use Rattle.cosign_rows.specs.Refusal.{is_memory}
-use Rattle.cosign_rows.specs.Sound.{Backed}
 use Rattle.cosign_rows.specs.Verified.{Whole}
 use Rattle.cosign_rows.specs.declared.found.TrustedLayers.{TrustedLayers}
 use Rattle.cosign_rows.specs.declared.refusal.PullRefusal.{PullRefusal}
 use Rattle.live_link.specs.State.{Held, opening, told_from}
 use Rattle.live_link.specs.declared.stage.Breach.{Breach}
 use Rattle.live_host.specs.Wire.{Wire}
-use Rattle.live_pull.specs.Pulls.{Carries, Collects, Transfer, collected_of}
-use Rattle.live_pull.specs.Justified.{Justified, Shown}
-use Rattle.live_pull.specs.Terms.{IsWhole, PulledBy}
+use Rattle.live_pull.specs.Pulls.{Carries, Collects, IsWhole, Transfer, collected_of}
+use Rattle.live_pull.specs.Justified.{Shown}
+use Rattle.live_pull.specs.Terms.{PulledBy}
 
 -- the state of a transport's streams once it is dropped
 abbrev pub Lets : Link → Option Breach → SinkState → SourceState → Type 0
@@ -62,6 +53,7 @@ pub found : (row : Row TrustedLayers) (first last : Link) (breach : Option Breac
 found row first last breach old new k l r (Ok layers) told none met lets are whole = record {
   answer = r;
   transfer = transfer row first last breach old new k l r told none (whole_search row first last k l r whole met) lets;
+  whole = whole;
   are = are;
 }
 found row first last breach old new k l r (Err e) told none met lets are whole = tt
@@ -75,16 +67,3 @@ pulled row first last breach old new k l (Err e) told none met lets = λ whole. 
 -- a property of the exposed conversation holds for the frames that carried it
 pub shown : (P : List Exchange → Type 0) (first last : Link) (breach : Option Breach) (old new : Wire) → first.told ≡ told_from old.sink.taken old.source.left [] → Told P first last → Lets last breach new.sink new.source → Shown P old new
 shown P first last breach old new told is lets = (is.conversation, carried first last breach old new is.conversation told is.told lets, is.holds)
-
--- why a pull's result is justified
-pub founded : {V : Type 0} {H : V → Type 0} (m : PolicyContext V H) (s : Context) (image : Reference) (a : RegistryAuth) (accepted : List (List ℕ)) (first last : Link) (breach : Option Breach) (old new : Wire) (k l : Kept) (r : Result VerifiedImage PullRefusal)
-    → first.told ≡ told_from old.sink.taken old.source.left [] → first.faults ≡ 0 → Lets last breach new.sink new.source
-    → IfOk r (λ v. Chain m image accepted s.settings.platform_resolver v) → IfOk r (λ v. Told (λ c. Backed k s image a c v) first last)
-    → IfErr r (λ e. Told (λ c. PullCause m s image a accepted (snapshot k first.faults) c (snapshot l last.faults) e) first last)
-    → Justified m s image a accepted k l r old new
-founded m s image a accepted first last breach old new k l (Ok v) told none lets chain backed cause = (chain, shown (λ c. Backed k s image a c v) first last breach old new told backed lets)
-founded m s image a accepted first last breach old new k l (Err e) told none lets chain backed cause = (
-  last.faults,
-  shown (λ c. PullCause m s image a accepted (snapshot k 0) c (snapshot l last.faults) e) first last breach old new told
-      (subst (λ (n : ℕ). Told (λ c. PullCause m s image a accepted (snapshot k n) c (snapshot l last.faults) e) first last) none cause) lets,
-)

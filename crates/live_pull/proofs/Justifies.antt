@@ -1,5 +1,5 @@
 -- A course by given terms is a live pull by the settings, and is justified.
-use Rattle.std.proofs.Common.{◌≡◌, ℕ, true, List, Some, None, Result, Ok, Err, sym, ap, ◌∙◌, subst}
+use Rattle.std.proofs.Common.{◌≡◌, ℕ, true, List, Some, None, Result, Ok, Err, inl, inr, sym, ap, ◌∙◌, subst}
 use Rattle.std.specs.FinMap.{FinMap}
 use Rattle.json_values.specs.Places.{by_bytes}
 use Rattle.oci_names.specs.declared.reference.Reference.{Reference}
@@ -28,9 +28,10 @@ use Rattle.cosign_rows.specs.DocumentsSound.{DecidedOver}
 use Rattle.live_host.specs.Everyone.{everyone}
 use Rattle.live_host.specs.Wire.{Wire}
 use Rattle.live_host.specs.declared.answers.Answers.{Answers}
+use Rattle.live_host.specs.declared.streams.HostError.{HostError}
 use Rattle.live_pull.specs.Justified.{Confined}
 use Rattle.live_pull.specs.Live.{Ends}
-use Rattle.live_pull.specs.Parts.{DeliversBy, Prepares}
+use Rattle.live_pull.specs.Parts.{DeliversBy, IsKept, Prepares}
 use Rattle.live_pull.specs.Pulls.{Transfer, client_settings, context_of, meaning_of, trust_of}
 use Rattle.live_pull.specs.declared.live.Prepared.{Prepared}
 use Rattle.live_pull.specs.declared.pulls.Terms.{Terms}
@@ -38,15 +39,17 @@ use Rattle.live_pull.specs.declared.settings.LiveSettings.{LiveSettings}
 use Rattle.live_pull.specs.declared.status.Status.{Status}
 use Rattle.live_pull.specs.declared.status.Status.TheVariants as status
 use Rattle.live_pull.proofs.Policies.{policy_is}
-use Rattle.live_pull.specs.Course.{AfterSearchBy, Asking, CourseBy, DocumentsTold, Giving, NothingTold}
-use Rattle.live_pull.specs.Decided.{DecidedDocuments, DecidedFrom, Decides, EndsEarly}
+use Rattle.live_pull.specs.Course.{AfterSearchBy, Asking, AskingCut, CourseBy, DocumentsCut, DocumentsTold, Giving, NothingTold}
+use Rattle.live_pull.specs.Decided.{DecidedDocuments, DecidedFrom, Decides, LiveDocumentsCut, Undecided, UndecidedFrom}
 use Rattle.live_pull.specs.DocumentsJustified.{AfterJustified, DecisionJustified, FoundJustified, JustifiedBy}
 use Rattle.live_pull.specs.LiveDocuments.{LiveDocuments}
 use Rattle.live_pull.specs.Rows.{asks_for, asks_of, collect_for, collect_row, decide_for, decide_row, everyone_of}
+use Rattle.live_pull.specs.Status.{StatusCause}
 use Rattle.live_pull.specs.DocumentsTerms.{AreTerms}
 use Rattle.live_pull.proofs.CourseParts.{decides_as}
+use Rattle.live_pull.proofs.EarlyEnds.{caused_as}
 use Rattle.live_pull.proofs.RowsSame.{collected_same, decided_same}
-use Rattle.live_pull.proofs.Transfers.{IsKept, meets, shown_by}
+use Rattle.live_pull.proofs.Transfers.{meets, holds_by}
 
 -- ---- the rows by these terms are those of the settings
 
@@ -73,36 +76,32 @@ decide_is {V} {H} own settings terms logs s answers found by =
 -- ---- justified
 
 module _ (Gives : Giving) (settings : LiveSettings) (image : Reference) (direct : mirror_of image ≡ None) where
-  search_justified : (k l : Kept) (old new : Wire) (r : Result TrustedLayers PullRefusal) → IsKept r → Transfer (collect_row settings image) old new k l r → FoundJustified (everyone_of settings) (context_of settings) image settings.auth k l r old new
+  search_justified : (k l : Kept) (old new : Wire) (r : Result TrustedLayers PullRefusal) → IsKept r → (t : Transfer (collect_row settings image) old new k l r) → FoundJustified (everyone_of settings) (context_of settings) image settings.auth k l t.conversation t.faults r
   search_justified k l old new (Ok found) kept t =
-      shown_by (collect_row settings image) (λ c. AnsweredOrFresh k (context_of settings) image settings.auth c found.digest) old new k l (Ok found) t
+      holds_by (collect_row settings image) (λ c. AnsweredOrFresh k (context_of settings) image settings.auth c found.digest) old new k l (Ok found) t
       (collected_answered (context_of settings) (everyone_of settings) image settings.auth k (Ok found) (meets (collect_row settings image) old new k l (Ok found) kept t))
-  search_justified k l old new (Err e) kept t = (
-    t.faults,
-    shown_by (collect_row settings image) (λ c. DocumentsCause (everyone_of settings) (context_of settings) image settings.auth (snapshot k 0) c (snapshot l t.faults) e) old new k l (Err e) t
-        (collected_cause (everyone_of settings) (context_of settings) image settings.auth (Err e) (meets (collect_row settings image) old new k l (Err e) kept t)),
-  )
+  search_justified k l old new (Err e) kept t =
+      holds_by (collect_row settings image) (λ c. DocumentsCause (everyone_of settings) (context_of settings) image settings.auth (snapshot k 0) c (snapshot l t.faults) e) old new k l (Err e) t
+      (collected_cause (everyone_of settings) (context_of settings) image settings.auth (Err e) (meets (collect_row settings image) old new k l (Err e) kept t))
 
-  search_confined : (k l : Kept) (old new : Wire) (r : Result TrustedLayers PullRefusal) → IsKept r → Transfer (collect_row settings image) old new k l r → Confined (context_of settings) image settings.auth k l old new
+  pub search_confined : (k l : Kept) (old new : Wire) (r : Result TrustedLayers PullRefusal) → IsKept r → (t : Transfer (collect_row settings image) old new k l r) → Confined (context_of settings) image settings.auth k l t.conversation
   search_confined k l old new r kept t =
-      shown_by (collect_row settings image) (λ c. Within (pulling k.0 (context_of settings) image (Some settings.auth)) (context_of settings).settings l.0 c) old new k l r t
+      holds_by (collect_row settings image) (λ c. Within (pulling k.0 (context_of settings) image (Some settings.auth)) (context_of settings).settings l.0 c) old new k l r t
       (collected_confined (everyone_of settings) (context_of settings) image settings.auth r direct (meets (collect_row settings image) old new k l r kept t))
 
-  decision_justified : (answers : Answers) (found : TrustedLayers) (k l : Kept) (old new : Wire) (r : Result VerifiedDocuments PullRefusal) → IsKept r → Transfer (decide_row settings image answers found) old new k l r → DecisionJustified (meaning_of settings answers) (context_of settings) image settings.auth found k l r old new
+  decision_justified : (answers : Answers) (found : TrustedLayers) (k l : Kept) (old new : Wire) (r : Result VerifiedDocuments PullRefusal) → IsKept r → (t : Transfer (decide_row settings image answers found) old new k l r) → DecisionJustified (meaning_of settings answers) (context_of settings) image settings.auth found k l t.conversation t.faults r
   decision_justified answers found k l old new (Ok d) kept t =
       let met = meets (decide_row settings image answers found) old new k l (Ok d) kept t in (
         decided_hold (meaning_of settings answers) (context_of settings) image settings.auth found (Ok d) met,
-        shown_by (decide_row settings image answers found) (λ c. DecidedOver found c d) old new k l (Ok d) t (decided_over (meaning_of settings answers) (context_of settings) image settings.auth found (Ok d) met),
+        holds_by (decide_row settings image answers found) (λ c. DecidedOver found c d) old new k l (Ok d) t (decided_over (meaning_of settings answers) (context_of settings) image settings.auth found (Ok d) met),
       )
-  decision_justified answers found k l old new (Err e) kept t = (
-    t.faults,
-    shown_by (decide_row settings image answers found) (λ c. DecidedCause (meaning_of settings answers) (context_of settings) image settings.auth found (snapshot k 0) c (snapshot l t.faults) e) old new k l (Err e) t
-        (decided_cause (meaning_of settings answers) (context_of settings) image settings.auth found (Err e) (meets (decide_row settings image answers found) old new k l (Err e) kept t)),
-  )
+  decision_justified answers found k l old new (Err e) kept t =
+      holds_by (decide_row settings image answers found) (λ c. DecidedCause (meaning_of settings answers) (context_of settings) image settings.auth found (snapshot k 0) c (snapshot l t.faults) e) old new k l (Err e) t
+      (decided_cause (meaning_of settings answers) (context_of settings) image settings.auth found (Err e) (meets (decide_row settings image answers found) old new k l (Err e) kept t))
 
-  decision_confined : (answers : Answers) (found : TrustedLayers) (k l : Kept) (old new : Wire) (r : Result VerifiedDocuments PullRefusal) → IsKept r → Transfer (decide_row settings image answers found) old new k l r → Confined (context_of settings) image settings.auth k l old new
+  decision_confined : (answers : Answers) (found : TrustedLayers) (k l : Kept) (old new : Wire) (r : Result VerifiedDocuments PullRefusal) → IsKept r → (t : Transfer (decide_row settings image answers found) old new k l r) → Confined (context_of settings) image settings.auth k l t.conversation
   decision_confined answers found k l old new r kept t =
-      shown_by (decide_row settings image answers found) (λ c. Within (pulling k.0 (context_of settings) image (Some settings.auth)) (context_of settings).settings l.0 c) old new k l r t
+      holds_by (decide_row settings image answers found) (λ c. Within (pulling k.0 (context_of settings) image (Some settings.auth)) (context_of settings).settings l.0 c) old new k l r t
       (decided_confined (meaning_of settings answers) (context_of settings) image settings.auth found r direct (meets (decide_row settings image answers found) old new k l r kept t))
 
   after_justified : (k l : Kept) (found : Result TrustedLayers PullRefusal) (old new : Wire) (r : Result VerifiedDocuments PullRefusal) → IsKept r → (after : AfterSearchBy Gives (asks_of settings) (decide_row settings image) k l found old new r) → AfterJustified Gives settings image k l found old new r after
@@ -166,12 +165,26 @@ decided_by own settings terms logs s k l old new r by kept course =
       justified = justified NothingTold settings (reference_in terms.image) terms.image.direct k l old new r kept here;
     }
 
+-- questions about what was collected, of which not every one was answered, by the settings
+undecided_by : {V : Type 0} {H : V → Type 0} (own : CustomVerdict V H) (settings : LiveSettings) (terms : Terms V H) (logs : FinMap by_bytes (List ℕ)) (s : Settings) (k l : Kept) (e : HostError) (old new : Wire) → ByTerms settings terms logs s
+    → AskingCut (collect_for own terms logs s) k l e old new → UndecidedFrom settings k l e old new
+undecided_by own settings terms logs s k l e old new by cut =
+    let search = subst (λ (row : Whole TrustedLayers). Transfer row old cut.searched_at k l (Ok cut.found)) (collect_is own settings terms logs s by) cut.search in
+    record {
+      image = reference_in terms.image;
+      reads = by.terms_are.image;
+      cut = record { searched_at = cut.searched_at; found = cut.found; search = search; asks = cut.asks };
+      confined = search_confined NothingTold settings (reference_in terms.image) terms.image.direct k l old cut.searched_at (Ok cut.found) tt search;
+    }
+
 -- what was decided, by the settings
 pub client_decides : {V : Type 0} {H : V → Type 0} (own : CustomVerdict V H) (settings : LiveSettings) (terms : Terms V H) (logs : FinMap by_bytes (List ℕ)) (s : Settings) (k l : Kept) (old new : Wire) (o : Result (Result VerifiedDocuments PullRefusal) Status) → ByTerms settings terms logs s
-    → Decides (CourseBy NothingTold (asks_for terms logs) (collect_for own terms logs s) (decide_for own terms logs s) k l old new) o new → Decides (λ r. DecidedFrom settings k l r old new) o new
+    → Decides (CourseBy NothingTold (asks_for terms logs) (collect_for own terms logs s) (decide_for own terms logs s) k l old new) (λ e. AskingCut (collect_for own terms logs s) k l e old new) o
+    → Decides (λ r. DecidedFrom settings k l r old new) (λ e. UndecidedFrom settings k l e old new) o
 client_decides own settings terms logs s k l old new (Ok (Ok d)) by h = decided_by own settings terms logs s k l old new (Ok d) by tt h
 client_decides own settings terms logs s k l old new (Ok (Err e)) by h = λ kept. decided_by own settings terms logs s k l old new (Err e) by kept (h kept)
-client_decides own settings terms logs s k l old new (Err e) by h = h
+client_decides own settings terms logs s k l old new (Err x) by h =
+    caused_as {C = λ e. AskingCut (collect_for own terms logs s) k l e old new} {D = λ e. UndecidedFrom settings k l e old new} x (λ e cut. undecided_by own settings terms logs s k l e old new by cut) h
 
 -- the same by a new client
 prepared_by : {V : Type 0} {H : V → Type 0} (settings : LiveSettings) (p : Prepared V H) → Prepares settings p → ByTerms settings p.terms p.client.rekor_pub_keys (client_state p.client).settings
@@ -182,12 +195,15 @@ prepared_by settings p (reads, auth, accepted, moment, keys, constraints, client
 }
 
 pub live_decides : {V : Type 0} {H : V → Type 0} (own : CustomVerdict V H) (settings : LiveSettings) (p : Prepared V H) (l : Kept) (old new : Wire) (o : Result (Result VerifiedDocuments PullRefusal) Status) → Prepares settings p
-    → Decides (CourseBy NothingTold (asks_for p.terms p.client.rekor_pub_keys) (collect_for own p.terms p.client.rekor_pub_keys (client_state p.client).settings) (decide_for own p.terms p.client.rekor_pub_keys (client_state p.client).settings) (client_state p.client).kept l old new) o new
-    → Decides (λ r. DecidedDocuments settings r old new) o new
+    → Decides (CourseBy NothingTold (asks_for p.terms p.client.rekor_pub_keys) (collect_for own p.terms p.client.rekor_pub_keys (client_state p.client).settings) (decide_for own p.terms p.client.rekor_pub_keys (client_state p.client).settings) (client_state p.client).kept l old new)
+    (λ e. AskingCut (collect_for own p.terms p.client.rekor_pub_keys (client_state p.client).settings) (client_state p.client).kept l e old new) o
+    → Decides (λ r. DecidedDocuments settings r old new) (λ e. Undecided settings e old new) o
 live_decides own settings p l old new o prepares h =
     let made = ap (λ (c : State). c.kept) prepares.6 in
-    decides_as {P = λ r. DecidedFrom settings (client_state p.client).kept l r old new} {Q = λ r. DecidedDocuments settings r old new} o new
+    decides_as {P = λ r. DecidedFrom settings (client_state p.client).kept l r old new} {Q = λ r. DecidedDocuments settings r old new}
+    {C = λ e. UndecidedFrom settings (client_state p.client).kept l e old new} {D = λ e. Undecided settings e old new} o
     (λ r from. record { left = l; decided = subst (λ (k : Kept). DecidedFrom settings k l r old new) made from })
+    (λ e from. record { left = l; undecided = subst (λ (k : Kept). UndecidedFrom settings k l e old new) made from })
     (client_decides own settings p.terms p.client.rekor_pub_keys (client_state p.client).settings (client_state p.client).kept l old new o (prepared_by settings p prepares) h)
 
 -- ---- what is sent afterwards
@@ -231,26 +247,27 @@ sent settings old at new r given h = record {
   justified = justified_given settings h.decided.image (fresh true) h.left old at new r given h.decided.course h.decided.justified;
 }
 
--- how a pull ends whose result was sent
-pub delivered_ends : (settings : LiveSettings) (old at new : Wire) (r : Result VerifiedDocuments PullRefusal) (s : Status) → Decides (λ r. DecidedDocuments settings r old at) (Ok r) at → DeliversBy DocumentsTold r s at new → Ends (λ r. LiveDocuments settings r old new) s new
+-- how a pull ends whose result was sent, or not all of it
+pub delivered_ends : (settings : LiveSettings) (old at new : Wire) (r : Result VerifiedDocuments PullRefusal) (s : Status) → Decides (λ r. DecidedDocuments settings r old at) (λ e. Undecided settings e old at) (Ok r) → DeliversBy DocumentsTold DocumentsCut r s at new
+    → Ends (λ r. LiveDocuments settings r old new) (λ e. LiveDocumentsCut settings e old new) s
 delivered_ends settings old at new (Ok d) status.Pulled decided given = (d, sent settings old at new (Ok d) given decided)
 delivered_ends settings old at new (Err e) status.Pulled decided given = absurd given
 delivered_ends settings old at new (Ok d) status.Refused decided given = absurd given
 delivered_ends settings old at new (Err e) status.Refused decided given = (e, given.0, sent settings old at new (Err e) given.1 (decided given.0))
 delivered_ends settings old at new (Ok d) status.UnreadableSettings decided given = absurd given
 delivered_ends settings old at new (Err e) status.UnreadableSettings decided given = absurd given
-delivered_ends settings old at new (Ok d) status.HostBroken decided given = given
-delivered_ends settings old at new (Err e) status.HostBroken decided given = given
-delivered_ends settings old at new (Ok d) status.SinkFault decided given = given
-delivered_ends settings old at new (Err e) status.SinkFault decided given = given
+delivered_ends settings old at new (Ok d) status.HostBroken decided given = inr (record { result = Ok d; decided_at = at; decided = decided; cut = given.1 })
+delivered_ends settings old at new (Err e) status.HostBroken decided given = inr (record { result = Err e; decided_at = at; decided = decided given.0; cut = given.1 })
+delivered_ends settings old at new (Ok d) status.SinkFault decided given = inr (record { result = Ok d; decided_at = at; decided = decided; cut = given.1 })
+delivered_ends settings old at new (Err e) status.SinkFault decided given = inr (record { result = Err e; decided_at = at; decided = decided given.0; cut = given.1 })
 delivered_ends settings old at new (Ok d) status.WantOfMemory decided given = tt
 delivered_ends settings old at new (Err e) status.WantOfMemory decided given = tt
 
 -- and one that ended before
-pub early_ends : (settings : LiveSettings) (old new : Wire) (s : Status) → EndsEarly s new → Ends (λ r. LiveDocuments settings r old new) s new
+pub early_ends : (settings : LiveSettings) (old new : Wire) (s : Status) → StatusCause (λ e. Undecided settings e old new) s → Ends (λ r. LiveDocuments settings r old new) (λ e. LiveDocumentsCut settings e old new) s
 early_ends settings old new status.Pulled h = absurd h
 early_ends settings old new status.Refused h = absurd h
 early_ends settings old new status.UnreadableSettings h = absurd h
-early_ends settings old new status.HostBroken h = h
-early_ends settings old new status.SinkFault h = h
+early_ends settings old new status.HostBroken h = inl h
+early_ends settings old new status.SinkFault h = inl h
 early_ends settings old new status.WantOfMemory h = tt

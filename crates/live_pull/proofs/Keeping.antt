@@ -1,10 +1,11 @@
 -- What a client keeps after a decision: responses within the bounds that it had, and credentials that it stored before or
 -- those of the settings.
-use Rattle.std.proofs.Common.{◌≡◌, ◌⊎◌, inl, inr, Some, Result, Ok, Err, sym, subst}
+use Rattle.std.proofs.Common.{◌≡◌, ◌⊎◌, inl, inr, List, Some, Result, Ok, Err, sym, subst}
 use Rattle.std.specs.FinMap as map
 use Rattle.oci_names.specs.Reference.{resolved_registry}
 use Rattle.oci_names.specs.declared.reference.Reference.{Reference}
 use Rattle.oci_auth.specs.declared.auth.RegistryAuth.{RegistryAuth}
+use Rattle.oci_transport.specs.declared.message.Exchange.{Exchange}
 use Rattle.registry_cache.specs.declared.answers.Bounds.{Bounds}
 use Rattle.registry_calls.specs.Clients.{Kept}
 use Rattle.cosign_chain.specs.declared.verified_documents.VerifiedDocuments.{VerifiedDocuments}
@@ -43,17 +44,17 @@ module _ (settings : LiveSettings) where
   by_stored a stored P Q before (inl h) = before h
   by_stored a stored P Q before (inr h) = cc (sym h.1)
 
-  confined_stores : (image : Reference) (k l : Kept) (old new : Wire) → Confined (context_of settings) image settings.auth k l old new → StoresOnly settings.auth k.0 → StoresOnly settings.auth l.0
-  confined_stores image k l old new confined only = λ registry stored here.
-      by_stored settings.auth stored (map.get k.0.credentials registry ≡ Some stored) (registry ≡ resolved_registry image) (only registry stored) (confined.2.stored registry stored here)
+  confined_stores : (image : Reference) (k l : Kept) (c : List Exchange) → Confined (context_of settings) image settings.auth k l c → StoresOnly settings.auth k.0 → StoresOnly settings.auth l.0
+  confined_stores image k l c confined only = λ registry stored here.
+      by_stored settings.auth stored (map.get k.0.credentials registry ≡ Some stored) (registry ≡ resolved_registry image) (only registry stored) (confined.stored registry stored here)
 
   after_stores : (image : Reference) (k l : Kept) (found : Result TrustedLayers PullRefusal) (old new : Wire) (r : Result VerifiedDocuments PullRefusal) (after : AfterSearchBy NothingTold (asks_of settings) (decide_row settings image) k l found old new r)
       → AfterJustified NothingTold settings image k l found old new r after → StoresOnly settings.auth k.0 → StoresOnly settings.auth l.0
-  after_stores image k l (Ok found) old new r after justified only = confined_stores image k l after.asked_at after.finished.decided_at justified.1 only
+  after_stores image k l (Ok found) old new r after justified only = confined_stores image k l after.finished.decision.conversation justified.1 only
   after_stores image k l (Err e) old new r after justified only = subst (λ (k : Kept). StoresOnly settings.auth k.0) (sym after.1) only
 
   pub decided_stores : (k l : Kept) (r : Result VerifiedDocuments PullRefusal) (old new : Wire) → DecidedFrom settings k l r old new → StoresOnly settings.auth k.0 → StoresOnly settings.auth l.0
   decided_stores k l r old new decided only =
       let course = decided.course in
       after_stores decided.image course.kept l course.found course.searched_at new r course.after decided.justified.after
-      (confined_stores decided.image k course.kept old course.searched_at decided.justified.confined only)
+      (confined_stores decided.image k course.kept course.search.conversation decided.justified.confined only)

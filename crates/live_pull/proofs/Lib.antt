@@ -8,9 +8,9 @@ pub mod Justifies
 pub mod Keeping
 pub mod Logs
 pub mod Loops
-pub mod Meanings
 pub mod PartsTogether
 pub mod Policies
+pub mod PullJustifies
 pub mod Ready
 pub mod RowsSame
 pub mod TargetReady

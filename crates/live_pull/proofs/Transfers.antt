@@ -1,20 +1,19 @@
 -- A complete run by frames, as a call over a transport that exposes its exchanges: the laws of calls are laws of it.
-use Rattle.std.proofs.Common.{◌≡◌, ℕ, false, List, [], ◌++◌, Option, Some, None, Result, Ok, Err, refl, sym, subst}
+use Rattle.std.proofs.Common.{◌≡◌, ℕ, false, List, [], ◌++◌, Some, None, Result, Ok, Err, refl, sym, subst}
 use Rattle.oci_transport.specs.Link.{Link, Extends}
 use Rattle.oci_transport.specs.declared.message.Exchange.{Exchange}
 use Rattle.oci_protocol.specs.Runs.{Meets, Performs, Told}
-use Rattle.registry_calls.specs.Clients.{Kept}
+use Rattle.registry_calls.specs.Clients.{Kept, Row}
+use Rattle.registry_calls.specs.Error.{is_memory as of_memory}
+use Rattle.registry_calls.specs.declared.error.SigstoreError.{SigstoreError}
+use Rattle.cosign_parts.specs.declared.layer.SignatureLayer.{SignatureLayer}
 use Rattle.cosign_rows.specs.Refusal.{is_memory}
 use Rattle.cosign_rows.specs.Verified.{Whole}
+use Rattle.cosign_rows.specs.declared.found.TrustedLayers.{TrustedLayers}
 use Rattle.cosign_rows.specs.declared.refusal.PullRefusal.{PullRefusal}
 use Rattle.live_host.specs.Wire.{Wire}
-use Rattle.live_pull.specs.Justified.{Shown}
-use Rattle.live_pull.specs.Pulls.{Transfer}
-
--- memory did not run out
-abbrev pub IsKept : {A : Type 0} → Result A PullRefusal → Type 0
-IsKept (Ok a) = Unit {0}
-IsKept (Err e) = is_memory e ≡ false
+use Rattle.live_pull.specs.Parts.{IsKept}
+use Rattle.live_pull.specs.Pulls.{Collects, IsWhole, Transfer}
 
 -- a transport that exposes these exchanges
 abbrev pub link_with : List Exchange → ℕ → Link
@@ -40,6 +39,17 @@ meets row old new k l (Err e) kept t = record { outcome = rw kept (performs row 
 same_exchanges : (c d : List Exchange) → Some c ≡ Some ([] ++ d) → d ≡ c
 same_exchanges c d is = let same : c ≡ d = cc is in sym same
 
--- what a law says of the exposed exchanges holds for those that the frames carried
-pub shown_by : {A : Type 0} (row : Whole A) (P : List Exchange → Type 0) (old new : Wire) (k l : Kept) (r : Result A PullRefusal) (t : Transfer row old new k l r) → Told P (link_with [] 0) (link_with t.conversation t.faults) → Shown P old new
-shown_by row P old new k l r t told = (t.conversation, t.carried, subst P (same_exchanges t.conversation told.conversation (told.told.told [] refl)) told.holds)
+-- what a law says of the exposed exchanges holds for those of the run
+pub holds_by : {A : Type 0} (row : Whole A) (P : List Exchange → Type 0) (old new : Wire) (k l : Kept) (r : Result A PullRefusal) (t : Transfer row old new k l r) → Told P (link_with [] 0) (link_with t.conversation t.faults) → P t.conversation
+holds_by row P old new k l r t told = subst P (same_exchanges t.conversation told.conversation (told.told.told [] refl)) told.holds
+
+-- the same of a search
+searches : (row : Row TrustedLayers) (old new : Wire) (k l : Kept) (r : Result TrustedLayers SigstoreError) → IsWhole r → (t : Transfer row old new k l r) → Meets of_memory row (link_with [] 0) (link_with t.conversation t.faults) k l r
+searches row old new k l (Ok found) whole t = record { outcome = record { conversation = t.conversation; told = extends t.conversation 0 t.faults; runs = t.runs; runs_by = λ answering before is told. none_some answering is } }
+searches row old new k l (Err e) whole t = record { outcome = rw whole (record { conversation = t.conversation; told = extends t.conversation 0 t.faults; runs = t.runs; runs_by = λ answering before is told. none_some answering is }) }
+
+pub search_holds : (row : Row TrustedLayers) (P : List Exchange → Type 0) (old new : Wire) (k l : Kept) (layers : List SignatureLayer) (collects : Collects row old new k l layers)
+    → ((a b : Link) → Meets of_memory row a b k l collects.answer → Told P a b) → P collects.transfer.conversation
+search_holds row P old new k l layers collects law =
+    let told = law (link_with [] 0) (link_with collects.transfer.conversation collects.transfer.faults) (searches row old new k l collects.answer collects.whole collects.transfer) in
+    subst P (same_exchanges collects.transfer.conversation told.conversation (told.told.told [] refl)) told.holds

@@ -6,17 +6,24 @@ use Rattle.cosign_chain.specs.declared.verified_documents.VerifiedDocuments.{Ver
 use Rattle.cosign_rows.specs.Verified.{Whole}
 use Rattle.cosign_rows.specs.declared.found.TrustedLayers.{TrustedLayers}
 use Rattle.cosign_rows.specs.declared.refusal.PullRefusal.{PullRefusal}
+use Rattle.live_host.specs.HostErrors.{AsksCause, GiveCause}
 use Rattle.live_host.specs.Items.{WereTold, decided_sent, documents_sent}
 use Rattle.live_host.specs.Questions.{WereAsked}
 use Rattle.live_host.specs.Wire.{Wire}
 use Rattle.live_host.specs.declared.answers.Answers.{Answers}
+use Rattle.live_host.specs.declared.streams.HostError.{HostError}
 use Rattle.live_pull.specs.Pulls.{Transfer}
-use Rattle.live_pull.specs.Refusals.{RefusalTold}
+use Rattle.live_pull.specs.Refusals.{RefusalCut, RefusalTold}
 
 -- documents, or a refusal, were sent
 abbrev pub DocumentsTold : Result VerifiedDocuments PullRefusal → Wire → Wire → Type 0
 DocumentsTold (Ok d) old new = WereTold (documents_sent d ++ decided_sent d ∷ []) old new
 DocumentsTold (Err refusal) old new = RefusalTold refusal old new
+
+-- why not all of the documents were sent, or not the refusal
+abbrev pub DocumentsCut : Result VerifiedDocuments PullRefusal → HostError → Wire → Wire → Type 0
+DocumentsCut (Ok d) e old new = GiveCause (documents_sent d ++ decided_sent d ∷ []) e old new
+DocumentsCut (Err refusal) e old new = RefusalCut refusal e old new
 
 -- what was sent for a result
 abbrev pub Giving : Type 1
@@ -62,7 +69,15 @@ pub record CourseBy (Gives : Giving) (Asks : Asking) (collect : Whole TrustedLay
   pub search : Transfer collect old searched_at k kept found
   pub after : AfterSearchBy Gives Asks decide kept l found searched_at new r
 
--- the same, with documents or a refusal sent at its end
+-- A search found layers, and the host was asked about them, but not every question was answered. The client kept `k`
+-- before and `l` afterwards.
+pub record AskingCut (collect : Whole TrustedLayers) (k l : Kept) (e : HostError) (old new : Wire) : Type 0 where
+  pub searched_at : Wire
+  pub found : TrustedLayers
+  pub search : Transfer collect old searched_at k l (Ok found)
+  pub asks : AsksCause e searched_at new
+
+-- the same course, with documents or a refusal sent at its end
 abbrev pub Course : Asking → Whole TrustedLayers → (Answers → TrustedLayers → Whole VerifiedDocuments) → Kept → Kept → Wire
     → Wire → Result VerifiedDocuments PullRefusal → Type 0
 Course = CourseBy DocumentsTold

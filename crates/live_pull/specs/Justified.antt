@@ -22,14 +22,13 @@ abbrev pub Shown : (List Exchange → Type 0) → Wire → Wire → Type 0
 Shown P old new = (c : List Exchange) × Carries c old new × P c
 
 -- credentials and tokens were sent only to the image's registry and to the realm that it names
-abbrev pub Confined : Context → Reference → RegistryAuth → Kept → Kept → Wire → Wire → Type 0
-Confined s image a k l old new = Shown (λ c. Within (pulling k.0 s image (Some a)) s.settings l.0 c) old new
+abbrev pub Confined : Context → Reference → RegistryAuth → Kept → Kept → List Exchange → Type 0
+Confined s image a k l c = Within (pulling k.0 s image (Some a)) s.settings l.0 c
 
--- an image has its chain and comes from its conversation; an error has its cause there
+-- an image has its chain and comes from these exchanges; an error has its cause there, with this fault count afterwards
 abbrev pub Justified : {V : Type 0} {H : V → Type 0} → PolicyContext V H → Context → Reference → RegistryAuth
-    → List (List ℕ)
-    → Kept → Kept → Result VerifiedImage PullRefusal → Wire → Wire → Type 0
-Justified policy_context s image a accepted k l (Ok v) old new =
-    Chain policy_context image accepted s.settings.platform_resolver v × Shown (λ c. Backed k s image a c v) old new
-Justified policy_context s image a accepted k l (Err e) old new =
-    (n : ℕ) × Shown (λ c. PullCause policy_context s image a accepted (snapshot k 0) c (snapshot l n) e) old new
+    → List (List ℕ) → Kept → Kept → List Exchange → ℕ → Result VerifiedImage PullRefusal → Type 0
+Justified policy_context s image a accepted k l c faults (Ok v) =
+    Chain policy_context image accepted s.settings.platform_resolver v × Backed k s image a c v
+Justified policy_context s image a accepted k l c faults (Err e) =
+    PullCause policy_context s image a accepted (snapshot k 0) c (snapshot l faults) e

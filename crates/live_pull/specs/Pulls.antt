@@ -1,12 +1,13 @@
 -- The search and the pull of a live pull, and the frames that carry their requests.
-use Rattle.std.specs.Prelude.{◌≡◌, ℕ, false, List, [], Option, Some, None, Result, Ok, Err, codes}
+use Rattle.std.specs.Prelude.{◌≡◌, ℕ, false, List, [], Option, Some, Result, Ok, Err}
 use Rattle.oci_names.specs.declared.reference.Reference.{Reference}
 use Rattle.oci_transport.specs.declared.message.Exchange.{Exchange}
 use Rattle.oci_protocol.specs.Proto.{Proto}
 use Rattle.oci_protocol.specs.Runs.{Runs}
 use Rattle.engine_terms.specs.Contexts.{Context, within}
 use Rattle.engine_terms.specs.declared.settings.Settings.{Settings}
-use Rattle.registry_calls.specs.Clients.{Kept, Row, none_kept}
+use Rattle.registry_calls.specs.Clients.{Kept, Row}
+use Rattle.registry_calls.specs.Error.{is_memory as of_memory}
 use Rattle.registry_calls.specs.declared.error.SigstoreError.{SigstoreError}
 use Rattle.cosign_layers.specs.Satisfying.{PolicyContext, policy_context}
 use Rattle.cosign_parts.specs.Trust.{Trust, trust}
@@ -70,9 +71,15 @@ abbrev pub collected_of : Result TrustedLayers SigstoreError → List SignatureL
 collected_of (Ok found) = found.collected
 collected_of (Err e) = []
 
+-- the search did not run out of memory
+abbrev pub IsWhole : Result TrustedLayers SigstoreError → Type 0
+IsWhole (Ok found) = Unit {0}
+IsWhole (Err e) = of_memory e ≡ false
+
 -- these layers were found
 pub record Collects (row : Row TrustedLayers) (old new : Wire) (k l : Kept) (layers : List SignatureLayer)
     : Type 0 where
   pub answer : Result TrustedLayers SigstoreError
   pub transfer : Transfer row old new k l answer
+  pub whole : IsWhole answer
   pub are : layers ≡ collected_of answer

@@ -19,3 +19,12 @@ abbrev pub status_of : HostError → Status
 status_of host.Broken = status.HostBroken
 status_of host.Unwritten = status.SinkFault
 status_of host.WantOfMemory = status.WantOfMemory
+
+-- the cause of a status that says that a frame was not sent or received; out of memory guarantees nothing
+abbrev pub StatusCause : (HostError → Type 0) → Status → Type 0
+StatusCause Cause status.Pulled = ⊥
+StatusCause Cause status.Refused = ⊥
+StatusCause Cause status.UnreadableSettings = ⊥
+StatusCause Cause status.HostBroken = Cause host.Broken
+StatusCause Cause status.SinkFault = Cause host.Unwritten
+StatusCause Cause status.WantOfMemory = Unit {0}

@@ -5,12 +5,15 @@ ghost use Rattle.registry_cache.specs.Auths.{registry_auth};
 ghost use Rattle.registry_calls.specs.Direct.{reference_in};
 ghost use Rattle.cosign_client.specs.State.{client_state};
 ghost use Rattle.recorded_case.specs.Policy.{constraints_by};
+ghost use Rattle.live_host.specs.HostErrors.{AsksCause};
 ghost use Rattle.live_host.specs.Wire.{wire};
 ghost use Rattle.live_pull.specs.Live.{Ends};
 ghost use Rattle.live_pull.specs.Parts.{DeliversBy};
 ghost use Rattle.live_pull.specs.Settings.{IsReady};
-ghost use Rattle.live_pull.specs.Course.{AskedAndDecidedBy, CourseBy, DocumentsTold, FinishedBy, NothingTold};
-ghost use Rattle.live_pull.specs.Decided.{DecidedDocuments, DecidedFrom, Decides, Suits};
+ghost use Rattle.live_pull.specs.Course.{AskedAndDecidedBy, AskingCut, CourseBy, DocumentsCut, DocumentsTold};
+ghost use Rattle.live_pull.specs.Course.{FinishedBy, NothingTold};
+ghost use Rattle.live_pull.specs.Decided.{DecidedDocuments, DecidedFrom, Decides, LiveDocumentsCut, Suits};
+ghost use Rattle.live_pull.specs.Decided.{Undecided, UndecidedFrom};
 ghost use Rattle.live_pull.specs.LiveDocuments.{LiveDocuments};
 ghost use Rattle.live_pull.specs.Rows.{asks_for, collect_for, decide_for};
 ghost use Rattle.live_pull.specs.DocumentsTerms.{AreTerms};
@@ -70,8 +73,7 @@ fn finish<S: Source, K: Sink>(
         (decide_for (λ b. accepts (b.vtable, b.value)) terms.now client.old.rekor_pub_keys
         (client_state client.old).settings answers.now found)
         (client_state client.old).kept (client_state client.new).kept
-        (wire S.state K.state streams) (wire S.state K.state result.streams))
-        result.outcome (wire S.state K.state result.streams) }
+        (wire S.state K.state streams) (wire S.state K.state result.streams)) (λ e. ⊥) result.outcome }
     ensures settings { (client_state client.new).settings ≡ (client_state client.old).settings }
     ensures log_keys { client.new.rekor_pub_keys ≡ client.old.rekor_pub_keys }
 {
@@ -95,7 +97,8 @@ fn ask_and_decide<S: Source, K: Sink>(
         (client_state client.old).settings)
         (client_state client.old).kept (client_state client.new).kept found
         (wire S.state K.state streams) (wire S.state K.state result.streams))
-        result.outcome (wire S.state K.state result.streams) }
+        (λ e. ((client_state client.new).kept ≡ (client_state client.old).kept) × AsksCause e
+        (wire S.state K.state streams) (wire S.state K.state result.streams)) result.outcome }
     ensures settings { (client_state client.new).settings ≡ (client_state client.old).settings }
     ensures log_keys { client.new.rekor_pub_keys ≡ client.old.rekor_pub_keys }
 {
@@ -130,7 +133,9 @@ fn converse<S: Source, K: Sink>(
         (client_state client.old).settings)
         (client_state client.old).kept (client_state client.new).kept
         (wire S.state K.state streams) (wire S.state K.state result.streams))
-        result.outcome (wire S.state K.state result.streams) }
+        (λ e. AskingCut (collect_for (λ b. accepts (b.vtable, b.value)) terms.now client.old.rekor_pub_keys
+        (client_state client.old).settings) (client_state client.old).kept (client_state client.new).kept e
+        (wire S.state K.state streams) (wire S.state K.state result.streams)) result.outcome }
     ensures settings { (client_state client.new).settings ≡ (client_state client.old).settings }
     ensures log_keys { client.new.rekor_pub_keys ≡ client.old.rekor_pub_keys }
 {
@@ -155,7 +160,8 @@ pub fn search_and_decide<S: Source, K: Sink>(
     requires { IsReady settings }
     ensures decided { Decides (λ r. DecidedDocuments settings r
         (wire S.state K.state streams) (wire S.state K.state result.streams))
-        result.outcome (wire S.state K.state result.streams) }
+        (λ e. Undecided settings e (wire S.state K.state streams) (wire S.state K.state result.streams))
+        result.outcome }
 {
     let asked = match ask_for(alloc, settings.reference.as_str(), &settings.auth) {
         Ok(asked) => asked,
@@ -225,7 +231,8 @@ pub fn decide_again<S: Source, K: Sink>(
     ensures decided { Suits settings client.old → Decides (λ r. DecidedFrom settings
         (client_state client.old).kept (client_state client.new).kept r
         (wire S.state K.state streams) (wire S.state K.state result.streams))
-        result.outcome (wire S.state K.state result.streams) }
+        (λ e. UndecidedFrom settings (client_state client.old).kept (client_state client.new).kept e
+        (wire S.state K.state streams) (wire S.state K.state result.streams)) result.outcome }
     ensures settings { (client_state client.new).settings ≡ (client_state client.old).settings }
     ensures log_keys { client.new.rekor_pub_keys ≡ client.old.rekor_pub_keys }
 {
@@ -249,7 +256,7 @@ fn end_delivered<S: Source, K: Sink>(
     streams: Streams<S, K>,
     outcome: Result<VerifiedDocuments, PullRefusal>,
 ) -> Ended<S, K>
-    ensures { DeliversBy DocumentsTold outcome result.status
+    ensures { DeliversBy DocumentsTold DocumentsCut outcome result.status
         (wire S.state K.state streams) (wire S.state K.state result.streams) }
 {
     let mut streams = streams;
@@ -269,7 +276,8 @@ pub fn serve_documents<S: Source, K: Sink>(
     requires { IsReady settings }
     ensures status { Ends (λ r. LiveDocuments settings r
         (wire S.state K.state streams) (wire S.state K.state result.streams))
-        result.status (wire S.state K.state result.streams) }
+        (λ e. LiveDocumentsCut settings e (wire S.state K.state streams) (wire S.state K.state result.streams))
+        result.status }
 {
     let Decided { streams, outcome } = search_and_decide(alloc, streams, settings);
     match outcome {

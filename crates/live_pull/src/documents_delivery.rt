@@ -1,9 +1,8 @@
 // How the result of a pull of documents is sent.
 ghost use Rattle.std.specs.Prelude.{◌≡◌, Ok, Err, IfErr, OnOk};
-ghost use Rattle.live_host.specs.HostErrors.{HostCause};
 ghost use Rattle.live_host.specs.Wire.{wire};
 ghost use Rattle.live_pull.specs.Parts.{DeliversBy};
-ghost use Rattle.live_pull.specs.Course.{DocumentsTold};
+ghost use Rattle.live_pull.specs.Course.{DocumentsCut, DocumentsTold};
 
 use crate::{Status, deliver_refusal};
 use byte_streams::{Sink, Source};
@@ -20,7 +19,8 @@ pub fn give_decided<S: Source, K: Sink>(
 ) -> Result<(), HostError>
     ensures told { OnOk result (DocumentsTold (Ok documents.now)
         (wire S.state K.state streams.old) (wire S.state K.state streams.new)) }
-    ensures cause { IfErr result (λ e. HostCause e (wire S.state K.state streams.new)) }
+    ensures cause { IfErr result (λ e. DocumentsCut (Ok documents.now) e
+        (wire S.state K.state streams.old) (wire S.state K.state streams.new)) }
 {
     give_documents(alloc, streams, documents)?;
     give_end(alloc, streams, documents)?;
@@ -32,7 +32,7 @@ fn deliver_documents<S: Source, K: Sink>(
     streams: &mut Streams<S, K>,
     documents: &VerifiedDocuments,
 ) -> Status
-    ensures { DeliversBy DocumentsTold (Ok documents.now) result
+    ensures { DeliversBy DocumentsTold DocumentsCut (Ok documents.now) result
         (wire S.state K.state streams.old) (wire S.state K.state streams.new) }
 {
     match give_decided(alloc, streams, documents) {
@@ -47,7 +47,7 @@ pub fn deliver_error<S: Source, K: Sink>(
     streams: &mut Streams<S, K>,
     refusal: &PullRefusal,
 ) -> Status
-    ensures { DeliversBy DocumentsTold (Err refusal.now) result
+    ensures { DeliversBy DocumentsTold DocumentsCut (Err refusal.now) result
         (wire S.state K.state streams.old) (wire S.state K.state streams.new) }
 {
     deliver_refusal(alloc, streams, refusal)
@@ -59,7 +59,7 @@ pub(crate) fn deliver<S: Source, K: Sink>(
     streams: &mut Streams<S, K>,
     outcome: &Result<VerifiedDocuments, PullRefusal>,
 ) -> Status
-    ensures { DeliversBy DocumentsTold outcome.now result
+    ensures { DeliversBy DocumentsTold DocumentsCut outcome.now result
         (wire S.state K.state streams.old) (wire S.state K.state streams.new) }
 {
     match outcome {

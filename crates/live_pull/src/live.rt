@@ -2,11 +2,13 @@
 ghost use Rattle.std.specs.Prelude.{◌≡◌, Ok, Err, Bool, IfOk, IfErr};
 ghost use Rattle.cosign_client.specs.State.{client_state};
 ghost use Rattle.live_host.specs.Wire.{wire};
-ghost use Rattle.live_pull.specs.Live.{Begins, Ends, StatusMeans, Live};
-ghost use Rattle.live_pull.specs.Parts.{Prepares, BeginCause, ReadsSettings, Delivers, Finished, SearchAskPull, searched_by};
+ghost use Rattle.live_pull.specs.Live.{Begins, Ends, StatusMeans, Live, LiveCut};
+ghost use Rattle.live_pull.specs.Parts.{Prepares, BeginCause, ReadsSettings, Delivers, Finished, FinishedCut};
+ghost use Rattle.live_pull.specs.Parts.{SearchAskPull, SearchAskPullCut, searched_by};
+ghost use Rattle.live_pull.specs.Refusals.{OutcomeTold};
 ghost use Rattle.live_pull.specs.Settings.{IsReady};
 ghost use Rattle.live_pull.specs.Rows.{layers_asked};
-ghost use Rattle.live_pull.specs.Terms.{row_for, PullShows, TermsConfined};
+ghost use Rattle.live_pull.specs.Terms.{row_for};
 
 use crate::opening::{Opened, open_settings};
 use crate::pulls::{Terms, pull, search};
@@ -129,11 +131,13 @@ fn finish<S: Source, K: Sink>(
     ensures { Ends (Finished
         (row_for (λ b. accepts (b.vtable, b.value)) prepared.old.terms answers.now
         prepared.old.client.rekor_pub_keys (client_state prepared.old.client).settings)
-        (PullShows (λ b. accepts (b.vtable, b.value)) prepared.old.terms answers.now
-        prepared.old.client.rekor_pub_keys (client_state prepared.old.client).settings)
-        blobs (client_state prepared.old.client).kept
+        (OutcomeTold blobs) (client_state prepared.old.client).kept
         (wire S.state K.state streams) (wire S.state K.state result.streams))
-        result.status (wire S.state K.state result.streams) }
+        (λ e. FinishedCut
+        (row_for (λ b. accepts (b.vtable, b.value)) prepared.old.terms answers.now
+        prepared.old.client.rekor_pub_keys (client_state prepared.old.client).settings)
+        blobs (client_state prepared.old.client).kept e
+        (wire S.state K.state streams) (wire S.state K.state result.streams)) result.status }
 {
     let (mut streams, outcome) = pull(
         alloc,
@@ -156,15 +160,18 @@ fn converse<S: Source, K: Sink>(
 ) -> Ended<S, K>
     ensures { Ends (SearchAskPull
         (searched_by prepared.old.terms prepared.old.client.rekor_pub_keys (client_state prepared.old.client).settings)
-        (TermsConfined prepared.old.terms (client_state prepared.old.client).settings)
         (layers_asked prepared.old.terms prepared.old.client.rekor_pub_keys)
         (λ answers. row_for (λ b. accepts (b.vtable, b.value)) prepared.old.terms answers
         prepared.old.client.rekor_pub_keys (client_state prepared.old.client).settings)
-        (λ answers. PullShows (λ b. accepts (b.vtable, b.value)) prepared.old.terms answers
-        prepared.old.client.rekor_pub_keys (client_state prepared.old.client).settings)
-        blobs (client_state prepared.old.client).kept
+        (OutcomeTold blobs) (client_state prepared.old.client).kept
         (wire S.state K.state streams) (wire S.state K.state result.streams))
-        result.status (wire S.state K.state result.streams) }
+        (λ e. SearchAskPullCut
+        (searched_by prepared.old.terms prepared.old.client.rekor_pub_keys (client_state prepared.old.client).settings)
+        (layers_asked prepared.old.terms prepared.old.client.rekor_pub_keys)
+        (λ answers. row_for (λ b. accepts (b.vtable, b.value)) prepared.old.terms answers
+        prepared.old.client.rekor_pub_keys (client_state prepared.old.client).settings)
+        blobs (client_state prepared.old.client).kept e
+        (wire S.state K.state streams) (wire S.state K.state result.streams)) result.status }
 {
     let (mut streams, found) = search(alloc, streams, &mut prepared.client, &prepared.terms);
     let layers = match found {
@@ -199,7 +206,8 @@ pub fn serve<S: Source, K: Sink>(
     requires { IsReady settings }
     ensures status { Ends (λ r. Live settings r
         (wire S.state K.state streams) (wire S.state K.state result.streams))
-        result.status (wire S.state K.state result.streams) }
+        (λ e. LiveCut settings e (wire S.state K.state streams) (wire S.state K.state result.streams))
+        result.status }
 {
     let asked = match ask_for(alloc, settings.reference.as_str(), &settings.auth) {
         Ok(asked) => asked,

@@ -8,8 +8,8 @@ ghost use Rattle.cosign_rows.specs.Search.{searched};
 ghost use Rattle.cosign_client.specs.State.{client_state};
 ghost use Rattle.live_host.specs.Everyone.{everyone};
 ghost use Rattle.live_host.specs.Wire.{wire};
-ghost use Rattle.live_pull.specs.Pulls.{Collects, Transfer, collected_of};
-ghost use Rattle.live_pull.specs.Terms.{row_for, IsWhole, PulledBy, PullShows, TermsConfined};
+ghost use Rattle.live_pull.specs.Pulls.{Collects, IsWhole, Transfer, collected_of};
+ghost use Rattle.live_pull.specs.Terms.{row_for, PulledBy};
 
 use byte_streams::{Sink, Source};
 use cosign_client::{Client, PullRefusal, TrustedLayers, VerifiedImage};
@@ -62,9 +62,6 @@ pub(crate) fn search<S: Source, K: Sink>(
         (reference_in terms.now.image) (registry_auth terms.now.auth))
         (wire S.state K.state streams) (wire S.state K.state result.0)
         (client_state client.old).kept (client_state client.new).kept) }
-    ensures confined { TermsConfined terms.now (client_state client.old).settings
-        (client_state client.old).kept (client_state client.new).kept
-        (wire S.state K.state streams) (wire S.state K.state result.0) }
     ensures settings { (client_state client.new).settings ≡ (client_state client.old).settings }
     ensures log_keys { client.new.rekor_pub_keys ≡ client.old.rekor_pub_keys }
 {
@@ -98,9 +95,6 @@ pub(crate) fn pull<S: Source, K: Sink>(
         (client_state client.old).settings)
         (wire S.state K.state streams) (wire S.state K.state result.0)
         (client_state client.old).kept (client_state client.new).kept result.1 }
-    ensures shows { PullShows (λ b. accepts (b.vtable, b.value)) terms.now answers.now client.old.rekor_pub_keys
-        (client_state client.old).settings (client_state client.old).kept (client_state client.new).kept result.1
-        (wire S.state K.state streams) (wire S.state K.state result.0) }
 {
     let Streams { source, sink } = streams;
     let mut transport = StreamTransport::new(source, sink);

@@ -1,8 +1,7 @@
 // How an error is sent.
 ghost use Rattle.std.specs.Prelude.{◌≡◌, IfOk, IfErr, OnOk};
-ghost use Rattle.live_host.specs.HostErrors.{HostCause};
 ghost use Rattle.live_host.specs.Wire.{wire};
-ghost use Rattle.live_pull.specs.Refusals.{IsReport, RefusalTold};
+ghost use Rattle.live_pull.specs.Refusals.{IsReport, RefusalCut, RefusalTold};
 
 use byte_streams::{Sink, Source};
 use cosign_client::PullRefusal;
@@ -31,7 +30,8 @@ pub(crate) fn give_refusal<S: Source, K: Sink>(
 ) -> Result<(), HostError>
     ensures told { OnOk result (RefusalTold refusal.now
         (wire S.state K.state streams.old) (wire S.state K.state streams.new)) }
-    ensures cause { IfErr result (λ e. HostCause e (wire S.state K.state streams.new)) }
+    ensures cause { IfErr result (λ e. RefusalCut refusal.now e
+        (wire S.state K.state streams.old) (wire S.state K.state streams.new)) }
 {
     let report = report_of(alloc, refusal)?;
     let head = refused_head(alloc, report.as_str())?;

@@ -1,5 +1,5 @@
-//! Credentials of registries, the tokens that realms issue for them, and both as a client holds
-//! them between calls.
+//! Credentials of registries, the tokens that realms issue for them, both as a client holds them between calls, and the
+//! challenges in a `www-authenticate` header.
 #![tactic(auto)]
 
 mod auth;

@@ -1,5 +1,5 @@
-//! Transports over connections, of recorded answers and of a registry in memory; the bodies, headers and URLs of
-//! requests; and the challenges of registries.
+//! The transports that users choose from: a registry in memory, one that fails at given calls, and a guard around
+//! another transport. The types of `oci_transport` and `oci_auth` are exported too, so that a user names one crate.
 #![tactic(auto)]
 
 mod faulty_shelf;

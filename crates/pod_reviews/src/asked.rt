@@ -66,8 +66,8 @@ impl Reads for Review {
 /// Reads an `AdmissionReview` of a Pod (Kubernetes, `admission.k8s.io/v1`): the images of its `initContainers`,
 /// `containers` and `ephemeralContainers`, of which the first and the last may be absent. Other members are ignored.
 ///
-/// Returns `Unreadable` if the value contains a float, or a member that is read is absent or of another type, or
-/// `containers` is empty.
+/// Returns `Unreadable` if the value contains a float, a member that is read has another type, one other than
+/// `initContainers` and `ephemeralContainers` is absent, or `containers` is empty.
 pub fn read_review(alloc: Global, value: &Value) -> Result<Review, ReviewError>
     ensures exact { ReadsReview result (plain_review_of (view value.now)) }
 {

@@ -44,8 +44,9 @@ impl Reads for PodReview {
 }
 
 /// Parses an `AdmissionReview` of a Pod (Kubernetes, `admission.k8s.io/v1`): the images of its containers and of its
-/// image volumes. Returns `None` if and only if the bytes are not a JSON text (RFC 8259), contain a float, or a member
-/// that is read is absent or of another type, or `containers` is empty.
+/// image volumes. Returns `None` if and only if the bytes are not a JSON text (RFC 8259) or contain a float, a member that
+/// is read has another type, one other than `initContainers`, `ephemeralContainers` and `volumes` is absent, or
+/// `containers` is empty.
 pub fn read_pod_review(alloc: Global, bytes: &[u8]) -> Result<Option<PodReview>, AllocError>
     ensures exact { IfOk result (λ found. found ≡ read_plain pod_review_of bytes.now) }
 {

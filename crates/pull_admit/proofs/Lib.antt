@@ -1,5 +1,6 @@
 pub mod Agreeing
 pub mod Allowed
+pub mod Confined
 pub mod OneImages
 pub mod Ready
 pub mod Reviewing

@@ -15,6 +15,7 @@ use Rattle.engine_rows.specs.Confined.{Within}
 use Rattle.engine_rows.specs.Held.{pulling}
 use Rattle.registry_calls.specs.Clients.{Kept}
 use Rattle.registry_calls.specs.Error.{FaultCounted}
+use Rattle.registry_calls.proofs.NoMirror.{no_mirror}
 use Rattle.cosign_chain.specs.declared.image.VerifiedImage.{VerifiedImage}
 use Rattle.cosign_laws.proofs.Causes.{pull_causes}
 use Rattle.cosign_laws.proofs.Chains.{verified_seen}
@@ -28,6 +29,7 @@ use Rattle.cosign_rows.specs.declared.refusal.PullRefusal.{PullRefusal}
 use Rattle.cosign_rows.specs.declared.refusal.PullRefusal.TheVariants.{WantOfMemory}
 use Rattle.cosign_laws.specs.Settled.{IsSettled, StaysSettled}
 use Rattle.cosign_laws.specs.Shelves.{AnswersFrom, WideShelf, OkOrMemory}
+use Rattle.pull_admit.proofs.Confined.{confined_run}
 use Rattle.pull_admit.specs.Causes.{CountsFault, HoldsNoMemory}
 use Rattle.pull_admit.specs.Confining.{EachConfined, ConfinedFor}
 use Rattle.pull_admit.specs.Decided.{PullTerms, DecidedBy, RanBy, Reviewed, pull_of}
@@ -55,9 +57,9 @@ decided_by : {V : Type 0} {H : V → Type 0} (known : Option Answering) (place :
     → DecidedBy known place t x (snapshot k m) c (snapshot l n) (decision_of r)
 decided_by known place t x image k l m n c (Ok v) parses whole run ran =
     let sound = seen t image k l m n c (Ok v) run in
-    record { image = image; parses = parses; run = ran; chain = sound.chain; backed = sound.backed }
+    record { image = image; parses = parses; run = ran; chain = sound.chain; backed = sound.backed; confined = confined_run t image k l m n c (Ok v) (no_mirror x.image image parses) whole run }
 decided_by known place t x image k l m n c (Err e) parses whole run ran =
-    record { image = image; parses = parses; run = ran; cause = (pull_causes t.policy_context t.context image t.auth t.accepted).shows k l m n c (Err e) run; memory = whole }
+    record { image = image; parses = parses; run = ran; cause = (pull_causes t.policy_context t.context image t.auth t.accepted).shows k l m n c (Err e) run; memory = whole; confined = confined_run t image k l m n c (Err e) (no_mirror x.image image parses) whole run }
 
 fault_of : (old new : Link) (r : Result VerifiedImage PullRefusal) → FaultCounted client_refusal old new r → CountsFault old new (decision_of r)
 fault_of old new (Ok v) counted = λ is. absurd (cc is)

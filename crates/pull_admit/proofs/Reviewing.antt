@@ -34,9 +34,9 @@ use Rattle.pod_reviews.specs.declared.images.ReviewImage.{ReviewImage}
 
 -- the index is of use only if it is known how the transport responds
 pub any_place : {V : Type 0} {H : V → Type 0} (t : PullTerms V H) (x : ReviewImage) (p q : ℕ) (start end : Snapshot) (c : List Exchange) (d : Decision) → DecidedBy None p t x start c end d → DecidedBy None q t x start c end d
-any_place t x p q start end c (Allow v) h = record { image = h.image; parses = h.parses; run = h.run; chain = h.chain; backed = h.backed }
+any_place t x p q start end c (Allow v) h = record { image = h.image; parses = h.parses; run = h.run; chain = h.chain; backed = h.backed; confined = h.confined }
 any_place t x p q start end c (Deny (NotAReference text)) h = h
-any_place t x p q start end c (Deny (Refused e)) h = record { image = h.image; parses = h.parses; run = h.run; cause = h.cause; memory = h.memory }
+any_place t x p q start end c (Deny (Refused e)) h = record { image = h.image; parses = h.parses; run = h.run; cause = h.cause; memory = h.memory; confined = h.confined }
 
 moved : {V : Type 0} {H : V → Type 0} (known : Option Answering) (t : PullTerms V H) (x : ReviewImage) (p q : ℕ) (start mid end : Snapshot) (c : List Exchange) (d : Decision) → p ≡ q → start ≡ mid → DecidedBy known p t x mid c end d → DecidedBy known q t x start c end d
 moved known t x p q start mid end c d at same h = subst (λ n. DecidedBy known n t x start c end d) at (subst (λ s. DecidedBy known p t x s c end d) (sym same) h)

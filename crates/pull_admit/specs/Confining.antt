@@ -1,20 +1,17 @@
 -- Where credentials and tokens are sent in a review: for each image, to its own registry and the realm that it names.
-use Rattle.std.specs.Prelude.{◌≡◌, ◌⊎◌, List, [], ◌∷◌, ◌++◌, Some, Result, Ok, Err}
+use Rattle.std.specs.Prelude.{◌≡◌, ◌⊎◌, List, [], ◌∷◌, ◌++◌, Result, Ok, Err}
 use Rattle.oci_names.specs.Reference.{reference_of}
 use Rattle.oci_names.specs.declared.parse_error.ParseError.{ParseError}
 use Rattle.oci_names.specs.declared.reference.Reference.{Reference}
 use Rattle.oci_transport.specs.declared.message.Exchange.{Exchange}
-use Rattle.engine_rows.specs.Confined.{Within}
-use Rattle.engine_rows.specs.Held.{pulling}
 use Rattle.registry_calls.specs.Clients.{Kept}
-use Rattle.pull_admit.specs.Decided.{PullTerms}
+use Rattle.pull_admit.specs.Decided.{IsConfined, PullTerms}
 use Rattle.pod_reviews.specs.declared.images.ReviewImage.{ReviewImage}
 
 -- the exchanges of an image's part; without a reference there is none
 abbrev pub ConfinedFor : {V : Type 0} {H : V → Type 0} → PullTerms V H → Result Reference ParseError → Kept
     → List Exchange → Kept → Type 0
-ConfinedFor t (Ok image) k c l =
-    Within (pulling k.0 t.context image (Some t.auth)) t.context.settings l.0 c
+ConfinedFor t (Ok image) k c l = IsConfined t image k c l
 ConfinedFor t (Err e) k c l = ⊥
 
 -- The exchanges are parts in the order of the images, each confined for the reference of its image. An image has no

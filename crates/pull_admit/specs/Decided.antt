@@ -1,11 +1,14 @@
 -- The decisions about the images of a review.
-use Rattle.std.specs.Prelude.{◌≡◌, ◌+◌, ℕ, false, List, [], ◌∷◌, ◌++◌, length, Option, Some, None, Result, Ok, Err, IsErr}
+use Rattle.std.specs.Prelude.{◌≡◌, ◌+◌, ℕ, false, List, [], ◌∷◌, ◌++◌, length, Option, Some, None}
+use Rattle.std.specs.Prelude.{Result, Ok, Err, IsErr}
 use Rattle.oci_names.specs.Reference.{reference_of}
 use Rattle.oci_names.specs.declared.reference.Reference.{Reference}
 use Rattle.oci_auth.specs.declared.auth.RegistryAuth.{RegistryAuth}
 use Rattle.oci_transport.specs.Link.{Link, Answering, Extends}
 use Rattle.oci_transport.specs.declared.message.Exchange.{Exchange}
 use Rattle.oci_protocol.specs.Runs.{Runs, RunsBy}
+use Rattle.engine_rows.specs.Confined.{Within}
+use Rattle.engine_rows.specs.Held.{pulling}
 use Rattle.engine_terms.specs.Contexts.{Context, within}
 use Rattle.engine_terms.specs.declared.settings.Settings.{Settings}
 use Rattle.registry_calls.specs.Clients.{Kept}
@@ -53,7 +56,12 @@ abbrev pub RanBy : Option Answering → ℕ → Whole VerifiedImage → Snapshot
 RanBy None place p start c end r = Runs p start.kept start.faults c end.faults end.kept r
 RanBy (Some t) place p start c end r = RunsBy t place p start.kept start.faults c end.faults end.kept r
 
--- the image was pulled: it has a chain, which comes from these exchanges
+-- Credentials and tokens are sent in these exchanges only to the registry of this image and to the realm that it names;
+-- what the client stores afterwards was stored before or results from them.
+abbrev pub IsConfined : {V : Type 0} {H : V → Type 0} → PullTerms V H → Reference → Kept → List Exchange → Kept → Type 0
+IsConfined t image k c l = Within (pulling k.0 t.context image (Some t.auth)) t.context.settings l.0 c
+
+-- the image was pulled: it has a chain, which comes from these exchanges, and they are confined for it
 pub record WasPulled {V : Type 0} {H : V → Type 0} (known : Option Answering) (place : ℕ) (t : PullTerms V H)
     (text : List ℕ) (start : Snapshot) (c : List Exchange) (end : Snapshot) (v : VerifiedImage) : Type 0 where
   pub image : Reference
@@ -61,8 +69,10 @@ pub record WasPulled {V : Type 0} {H : V → Type 0} (known : Option Answering) 
   pub run : RanBy known place (pull_of t image) start c end (Ok v)
   pub chain : Chain t.policy_context image t.accepted t.context.settings.platform_resolver v
   pub backed : Backed start.kept t.context image t.auth c v
+  pub confined : IsConfined t image start.kept c end.kept
 
--- the pull was refused, with its cause in these exchanges, and not because memory ran out
+-- The pull was refused, with its cause in these exchanges, and not because memory ran out. They are confined for the
+-- image.
 pub record WasRefused {V : Type 0} {H : V → Type 0} (known : Option Answering) (place : ℕ) (t : PullTerms V H)
     (text : List ℕ) (start : Snapshot) (c : List Exchange) (end : Snapshot) (e : PullRefusal) : Type 0 where
   pub image : Reference
@@ -70,6 +80,7 @@ pub record WasRefused {V : Type 0} {H : V → Type 0} (known : Option Answering)
   pub run : RanBy known place (pull_of t image) start c end (Err e)
   pub cause : PullCause t.policy_context t.context image t.auth t.accepted start c end e
   pub memory : is_memory e ≡ false
+  pub confined : IsConfined t image start.kept c end.kept
 
 -- nothing is requested for a string that is not a reference; any other is a whole run of the pull
 abbrev pub DecidedBy : {V : Type 0} {H : V → Type 0} → Option Answering → ℕ → PullTerms V H → ReviewImage → Snapshot

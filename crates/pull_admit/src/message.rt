@@ -1,7 +1,8 @@
 // The message of a response: which images are denied, and why.
 ghost use Rattle.std.specs.Prelude.{◌≡◌, ◌++◌, IfOk, OnOk, IsTrue, ◌↔◌, codes, flat_map};
 ghost use Rattle.std.specs.List.{All};
-ghost use Rattle.pull_admit.specs.Responses.{all_allowed, cause_print, denial, denials, is_allowed, joined, message, IsAllowed};
+ghost use Rattle.pull_admit.specs.Responses.{all_allowed, cause_print, denial, denials, is_allowed, joined};
+ghost use Rattle.pull_admit.specs.Responses.{message, IsAllowed};
 
 use crate::decision::{Decision, DenyCause};
 use json_values::{Blob, Copied, List, Text};

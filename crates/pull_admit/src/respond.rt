@@ -67,8 +67,8 @@ fn response_json(alloc: Global, review: &Review, decisions: &[Decision]) -> Resu
 }
 
 /// Returns the response to a review, an `AdmissionReview` as canonical JSON (RFC 8785): `response.allowed` is true if
-/// and only if every decision is `Allow`; otherwise `response.status.message` has, for each denied image, its name, `: `
-/// and the cause on one line, separated by `; `. There is one decision for each image, in order.
+/// and only if every decision is `Allow`; otherwise `response.status.message` has, for each denied image, its name,
+/// `: ` and the cause on one line, separated by `; `. There is one decision for each image, in order.
 pub fn response(
     alloc: Global,
     review: &Review,

@@ -1,5 +1,5 @@
-//! What calls of a registry's client are asked with, the texts that their answers are kept under, and the answers that a
-//! client keeps: how each is kept, and how it is found again.
+//! The responses that a client of registries caches: the keys that they are cached under, how long they are returned,
+//! what a bound evicts, and how each kind is stored and found again.
 #![tactic(auto)]
 
 mod answer;

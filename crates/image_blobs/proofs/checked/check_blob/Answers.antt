@@ -1,7 +1,5 @@
-use Rattle.std.proofs.Common.{refl, sym, ap, ◌∙◌}
-use Rattle.image_blobs.proofs.HashedBytes.{never_blob}
-use Rattle.image_blobs.specs.Checked.{IsDigesterOf}
+use Rattle.image_blobs.proofs.HashedBytes.{all_checked}
 use Rattle.image_blobs.proofs.checked.check_blob.Goals as goal
 
-pub returns-in_default : goal.returns-in_default
-returns-in_default g c = never_blob _ _ (λ bytes b. (rw c.in_default.is at c.in_ok-digester.ensures) bytes (rw c.as_str.ensures b.1))
+pub returns-clause-blob : goal.returns-clause-blob
+returns-clause-blob g c = all_checked _ _ _ c.is_blob.result c.is_blob.ensures.checks

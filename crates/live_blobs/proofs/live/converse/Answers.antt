@@ -5,6 +5,6 @@ use Rattle.live_blobs.proofs.live.converse.Goals as goal
 
 pub returns : goal.returns
 returns g c =
-    told_ends _ _ _ (descriptors_of c.args.manifest.now) c.args.range c.stood_range-stood.result c.pull-streams.result.1 c.pull-streams.result.2
-    (wire g.S.Source.state g.K.Sink.state c.args.streams) (wire g.S.Source.state g.K.Sink.state c.pull-streams.result.0) _ c.deliver-status.result
+    told_ends _ _ _ (descriptors_of c.args.manifest.now) c.args.range c.stood_range-stood.result c.pull-streams.result.1
+    (wire g.S.Source.state g.K.Sink.state c.args.streams) (wire g.S.Source.state g.K.Sink.state c.pull-streams.result.0) _ c.pull-streams.result.2 c.deliver-status.result
     c.pull-streams.ensures.pulled c.pull-streams.ensures.received c.stood_range-stood.ensures c.deliver-status.ensures

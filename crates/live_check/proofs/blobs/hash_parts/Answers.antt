@@ -1,5 +1,6 @@
 use Rattle.std.proofs.lemmas.Bool.{eqb-true, eq-eqb}
-use Rattle.live_check.proofs.Pieces.{fewer_left, hashed_all, hashed_more, hashed_over}
+use Rattle.live_check.proofs.Ends.{passed_on}
+use Rattle.live_check.proofs.Pieces.{fewer_left, hashed_all, hashed_cut, hashed_more, hashed_over}
 use Rattle.live_check.proofs.blobs.hash_parts.Goals as goal
 
 pub returns-in-End-clause-hashed : goal.returns-in-End-clause-hashed
@@ -13,3 +14,6 @@ loop-part-smaller g c = rw c.as_slice.ensures (fewer_left _ _ _ _ (rw c.in-Piece
 
 pub loop-part-preserved : goal.loop-part-preserved
 loop-part-preserved g c = rw c.as_slice.ensures (hashed_more _ _ _ _ _ _ _ _ _ c.loop-part.invariant (rw c.in-Piece.is at c.in_ok-part.ensures.received) (rw c.as_slice.ensures at c.if-count-left.false) (λ a m h. rw c.as_slice-in-loop-part.ensures at (c.update.ensures a m h)))
+
+pub returns-in_err-part-clause-cause : goal.returns-in_err-part-clause-cause
+returns-in_err-part-clause-cause g c = passed_on _ _ _ (hashed_cut _ _ _ _ _ _ _ _ c.loop-part.invariant c.in_err-part.ensures.cause) c.from_residual.ensures

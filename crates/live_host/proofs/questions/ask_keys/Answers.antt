@@ -1,5 +1,7 @@
 use Rattle.std.proofs.lemmas.List.{take_all}
 use Rattle.std.proofs.lemmas.List.Elements.{All-nil}
+use Rattle.live_host.specs.HostErrors.{AsksCause}
+use Rattle.live_host.proofs.Causes.{ask_later, passed}
 use Rattle.live_host.proofs.QuestionSteps.{asks_both, asks_none, keys_next}
 use Rattle.live_host.proofs.questions.ask_keys.Goals as goal
 
@@ -18,3 +20,6 @@ returns-clause-asked g c = c.loop-key.invariant.0
 
 pub returns-clause-about : goal.returns-clause-about
 returns-clause-about g c = rw (take_all _ _ c.loop-key-test.false) at c.loop-key.invariant.1
+
+pub returns-in_err-ask_key-clause-cause : goal.returns-in_err-ask_key-clause-cause
+returns-in_err-ask_key-clause-cause g c = passed AsksCause _ _ _ _ (ask_later _ _ _ _ _ _ c.loop-key.invariant.0 c.in_err-ask_key.ensures.cause) c.from_residual.ensures

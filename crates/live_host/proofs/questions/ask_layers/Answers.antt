@@ -1,6 +1,8 @@
 use Rattle.std.proofs.Common.{[]}
 use Rattle.std.proofs.lemmas.List.{take_all}
 use Rattle.std.proofs.lemmas.List.Elements.{All-nil}
+use Rattle.live_host.specs.HostErrors.{AsksCause}
+use Rattle.live_host.proofs.Causes.{ask_later, passed}
 use Rattle.live_host.proofs.QuestionSteps.{all_asked, asks_both, asks_none, layers_next}
 use Rattle.live_host.proofs.questions.ask_layers.Goals as goal
 
@@ -19,3 +21,6 @@ returns-clause-asked g c = all_asked _ _ _ c.loop-layer.invariant.0
 
 pub returns-clause-about : goal.returns-clause-about
 returns-clause-about g c = rw (take_all _ _ c.loop-layer-test.false) at c.loop-layer.invariant.1
+
+pub returns-in_err-ask_layer-clause-cause : goal.returns-in_err-ask_layer-clause-cause
+returns-in_err-ask_layer-clause-cause g c = passed AsksCause _ _ _ _ (ask_later _ _ _ _ _ _ c.loop-layer.invariant.0 c.in_err-ask_layer.ensures.cause) c.from_residual.ensures

@@ -3,14 +3,14 @@ use Rattle.live_host.specs.Heads.{begin_head}
 use Rattle.live_host.specs.Wire.{wire}
 use Rattle.live_host.proofs.FramesIn.{asks}
 use Rattle.live_pull.specs.Settings.{settings_of}
-use Rattle.live_pull.proofs.EarlyEnds.{host_begins, passed_begin, unread_begins}
+use Rattle.live_pull.proofs.EarlyEnds.{begin_unheard, begin_untold, host_begins, passed_begin, unread_begins}
 use Rattle.live_pull.proofs.live.begin.Goals as goal
 
 pub returns-in_err-tell-clause-cause : goal.returns-in_err-tell-clause-cause
-returns-in_err-tell-clause-cause g c = passed_begin _ _ _ _ (host_begins _ _ _ c.in_err-tell.ensures.cause) c.from_residual-in_err-tell.ensures
+returns-in_err-tell-clause-cause g c = passed_begin _ _ _ _ (host_begins _ _ _ (begin_untold _ _ _ (rw c.in_ok-head.ensures.head at c.in_err-tell.ensures.cause))) c.from_residual-in_err-tell.ensures
 
 pub returns-in_err-frame-clause-cause : goal.returns-in_err-frame-clause-cause
-returns-in_err-frame-clause-cause g c = passed_begin _ _ _ _ (host_begins _ _ _ c.in_err-frame.ensures.cause) c.from_residual-in_err-frame.ensures
+returns-in_err-frame-clause-cause g c = passed_begin _ _ _ _ (host_begins _ _ _ (begin_unheard _ _ (wire g.S.Source.state g.K.Sink.state c.tell.new.streams) _ (rw c.in_ok-head.ensures.head at c.in_ok-tell.ensures.told) c.in_err-frame.ensures.cause)) c.from_residual-in_err-frame.ensures
 
 pub returns-in_err-settings-clause-cause : goal.returns-in_err-settings-clause-cause
 returns-in_err-settings-clause-cause g c =

@@ -2,15 +2,15 @@ use Rattle.std.proofs.Common.{[], refl}
 use Rattle.live_host.specs.Heads.{begin_head}
 use Rattle.live_host.specs.Wire.{wire}
 use Rattle.live_host.proofs.FramesIn.{asks}
-use Rattle.live_pull.proofs.EarlyEnds.{host_first, passed_first, unread_first}
+use Rattle.live_pull.proofs.EarlyEnds.{begin_unheard, begin_untold, host_first, passed_first, unread_first}
 use Rattle.roksnaep_core.specs.First.{first_of}
 use Rattle.roksnaep_core.proofs.whole.begin.Goals as goal
 
 pub returns-in_err-tell-clause-cause : goal.returns-in_err-tell-clause-cause
-returns-in_err-tell-clause-cause g c = passed_first first_of _ _ _ _ (host_first first_of _ _ _ c.in_err-tell.ensures.cause) c.from_residual-in_err-tell.ensures
+returns-in_err-tell-clause-cause g c = passed_first first_of _ _ _ _ (host_first first_of _ _ _ (begin_untold _ _ _ (rw c.in_ok-head.ensures.head at c.in_err-tell.ensures.cause))) c.from_residual-in_err-tell.ensures
 
 pub returns-in_err-frame-clause-cause : goal.returns-in_err-frame-clause-cause
-returns-in_err-frame-clause-cause g c = passed_first first_of _ _ _ _ (host_first first_of _ _ _ c.in_err-frame.ensures.cause) c.from_residual-in_err-frame.ensures
+returns-in_err-frame-clause-cause g c = passed_first first_of _ _ _ _ (host_first first_of _ _ _ (begin_unheard _ _ (wire g.S.Source.state g.K.Sink.state c.tell.new.streams) _ (rw c.in_ok-head.ensures.head at c.in_ok-tell.ensures.told) c.in_err-frame.ensures.cause)) c.from_residual-in_err-frame.ensures
 
 pub returns-in_err-first-clause-cause : goal.returns-in_err-first-clause-cause
 returns-in_err-first-clause-cause g c =

@@ -1,0 +1,6 @@
+use Rattle.live_check.proofs.Ends.{passed_on}
+use Rattle.live_check.proofs.LockEnds.{unread_untold}
+use Rattle.live_check.proofs.lock_serve.tell_unread.Goals as goal
+
+pub returns-in_err-tell-clause-cause : goal.returns-in_err-tell-clause-cause
+returns-in_err-tell-clause-cause g c = passed_on _ _ _ (unread_untold _ _ _ _ _ c.in_ok-head.ensures.head c.in_err-tell.ensures.cause) c.from_residual-in_err-tell.ensures
