@@ -12,8 +12,8 @@ use Rattle.live_blobs.specs.declared.carry_opening.Opened.{Opened}
 use Rattle.live_blobs.specs.declared.carry_settings.CarrySettings.{CarrySettings}
 use Rattle.live_pull.specs.declared.target.TargetSettings.{TargetSettings}
 
--- The greatest number of bytes that are sent, and that a response may have: the blob's size, and at least so many that a
--- response with a token can be read.
+-- The greatest number of bytes that are sent, and that a response may have: the blob's size, and at least so many that
+-- a response with a token can be read.
 abbrev pub limit_of : ℕ → ℕ
 limit_of size = if nat_lt size 1048576 then 1048576 else size
 

@@ -82,11 +82,12 @@ pub record SentAll (digest : List ℕ) (before after : SourceState) (old new : W
 abbrev pub TookMore : ℕ → SourceState → SourceState → Type 0
 TookMore limit before after = (bytes : List ℕ) × Takes bytes before after × (limit < length bytes)
 
--- Why a push was refused for what the source gave: it failed; it gave more bytes than the limit, if not the last response
--- had more; or it gave none.
+-- Why a push was refused for what the source gave: it failed; it gave more bytes than the limit, if not the last
+-- response had more; or it gave none.
 abbrev pub SourceCause : ℕ → SourceState → SourceState → Wire → Wire → OciDistributionError → Type 0
 SourceCause limit before after old new refusal.SourceFault = Increased before.faults after.faults
-SourceCause limit before after old new refusal.BodyTooLong = TookMore limit before after ⊎ Shown (LastLong limit) old new
+SourceCause limit before after old new refusal.BodyTooLong =
+    TookMore limit before after ⊎ Shown (LastLong limit) old new
 SourceCause limit before after old new refusal.PushNoDataError = Takes [] before after × IsAtEnd after.left
 SourceCause limit before after old new _ = Unit {0}
 

@@ -42,8 +42,8 @@ PulledAndCut s image k xs e old new = (r : Result Unit OciDistributionError)
     × PulledBy (λ digests outcome. BlobsCut digests outcome e) s image k xs old new r
 
 -- What was done by these settings, from one state of the streams to another: the blobs of the range were pulled by a
--- new client with the credentials of the settings. Each digest that was sent is that of a blob that was received in this
--- conversation, which it names, and whose descriptor is in the range.
+-- new client with the credentials of the settings. Each digest that was sent is that of a blob that was received in
+-- this conversation, which it names, and whose descriptor is in the range.
 pub record LiveBlobsBy (Gives : Giving) (settings : BlobSettings) (r : Result Unit OciDistributionError)
     (old new : Wire) : Type 0 where
   pub image : Reference

@@ -92,8 +92,8 @@ fn deliver_error<S: Source, K: Sink>(
     }
 }
 
-/// Sends that the target has the blob of this digest, or why it was not carried, unless memory ran out. Returns the exit
-/// status.
+/// Sends that the target has the blob of this digest, or why it was not carried, unless memory ran out. Returns the
+/// exit status.
 pub(crate) fn deliver<S: Source, K: Sink>(
     alloc: Global,
     streams: &mut Streams<S, K>,

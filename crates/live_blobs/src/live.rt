@@ -73,8 +73,8 @@ fn converse<S: Source, K: Sink>(
 }
 
 /// Pulls the blobs of a range of an image's manifest: each is requested and checked as it is received, and the digests
-/// of those that passed are sent, with the error that ended the pull if one was refused. The host, which received the bytes first, keeps
-/// them. Returns the exit status and the streams.
+/// of those that passed are sent, with the error that ended the pull if one was refused. The host, which received the
+/// bytes first, keeps them. Returns the exit status and the streams.
 pub fn serve_blobs<S: Source, K: Sink>(
     alloc: Global,
     streams: Streams<S, K>,

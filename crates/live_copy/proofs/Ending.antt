@@ -112,13 +112,13 @@ pub is_carried : (d : Data) → is_some (frame_named (codes "carried") d) ≡ tr
 is_carried d is = some_after (frame_named (codes "carried") d) is
 
 -- the question was not sent
-pub unasked : (head : Data) (e : HostError) (old new : Wire) → head ≡ carry_head → TellCause (head, []) e old new → CarryCut e old new
+pub unasked : (head : Data) (e : HostError) (old new : Wire) → head ≡ carry_head → TellCause (head, []) e old new → StatusCause (λ x. CarryCut x old new) (status_of e)
 unasked head host.Broken old new is cut = absurd cut
 unasked head host.Unwritten old new is cut = subst (λ (h : Data). SendsPrefix (h, []) old new) is cut
 unasked head host.WantOfMemory old new is cut = tt
 
 -- no frame was received after it
-pub unheard : (head : Data) (e : HostError) (old asked new : Wire) → head ≡ carry_head → SendsFrame head [] old asked → HearCause e asked new → CarryCut e old new
+pub unheard : (head : Data) (e : HostError) (old asked new : Wire) → head ≡ carry_head → SendsFrame head [] old asked → HearCause e asked new → StatusCause (λ x. CarryCut x old new) (status_of e)
 unheard head host.Broken old asked new is told cause = (asked, subst (λ (h : Data). SendsFrame h [] old asked) is told, inl cause)
 unheard head host.Unwritten old asked new is told cause = absurd cause
 unheard head host.WantOfMemory old asked new is told cause = tt
@@ -129,8 +129,11 @@ other_reply head d old asked new is told heard other = (asked, subst (λ (h : Da
 
 -- ---- the documents are handed over
 
-pub no_side : (head : Data) (d : VerifiedDocuments) (e : HostError) (old at new : Wire) → head ≡ side_head → DocumentsTold (Ok d) old at → TellCause (head, []) e at new → HandCut d e old new
-no_side head d e old at new is given cut = inr (at, given, subst (λ (h : Data). TellCause (h, []) e at new) is cut)
+pub no_documents : (d : VerifiedDocuments) (e : HostError) (old new : Wire) → DocumentsCut (Ok d) e old new → StatusCause (λ x. HandCut d x old new) (status_of e)
+no_documents d e old new cut = host_cause (λ x. HandCut d x old new) e (inl cut)
+
+pub no_side : (head : Data) (d : VerifiedDocuments) (e : HostError) (old at new : Wire) → head ≡ side_head → DocumentsTold (Ok d) old at → TellCause (head, []) e at new → StatusCause (λ x. HandCut d x old new) (status_of e)
+no_side head d e old at new is given cut = host_cause (λ x. HandCut d x old new) e (inr (at, given, subst (λ (h : Data). TellCause (h, []) e at new) is cut))
 
 -- ---- the pushes, and what is sent of them
 

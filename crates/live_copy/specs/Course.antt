@@ -57,8 +57,8 @@ pub record ByFrames {A : Type 0} (row : Row A) (old new : Wire) (k l : AuthState
   pub runs : Runs row k 0 conversation faults l r
   pub carried : Carries conversation old new
 
--- The documents were copied, from this client state on: the target was asked whether it has each blob, and then they were pushed;
--- credentials and tokens were sent only to the target's registry and to the realm that it names.
+-- The documents were copied, from this client state on: the target was asked whether it has each blob, and then they
+-- were pushed; credentials and tokens were sent only to the target's registry and to the realm that it names.
 pub record Pushed (s : Context) (image : Reference) (a : RegistryAuth) (tag : Bool) (d : VerifiedDocuments)
     (k : AuthState) (r : Result PushReport DocumentsRefusal) (old new : Wire) : Type 0 where
   pub left : AuthState
@@ -68,8 +68,8 @@ pub record Pushed (s : Context) (image : Reference) (a : RegistryAuth) (tag : Bo
 
 -- ---- the questions about tags
 
--- The target was asked what its tags name, from this client state on, as `free_target` does; credentials and tokens were
--- sent only to the target's registry and to the realm that it names.
+-- The target was asked what its tags name, from this client state on, as `free_target` does; credentials and tokens
+-- were sent only to the target's registry and to the realm that it names.
 pub record AskedTags (s : Context) (image : Reference) (a : RegistryAuth) (d : VerifiedDocuments) (k l : AuthState)
     (r : Result (Unit {0}) TargetRefusal) (old new : Wire) : Type 0 where
   pub run : ByFrames (target_free s image a d) old new k l (taken_of r)
@@ -124,8 +124,8 @@ UnlessTagsMemory (Err e) P = tags_ran_out e ≡ false → P
 -- ---- what was done at the target
 
 -- Its tags may be pushed; the host replied that it carried the blobs; and the documents were copied.
-pub record Copied (asks : Bool) (s : Context) (image : Reference) (a : RegistryAuth) (tag : Bool) (d : VerifiedDocuments)
-    (k : AuthState) (r : Result PushReport DocumentsRefusal) (old new : Wire) : Type 0 where
+pub record Copied (asks : Bool) (s : Context) (image : Reference) (a : RegistryAuth) (tag : Bool)
+    (d : VerifiedDocuments) (k : AuthState) (r : Result PushReport DocumentsRefusal) (old new : Wire) : Type 0 where
   pub free_at : Wire
   pub left : AuthState
   pub free : TagsAsked asks s image a d k left (Ok tt) old free_at
@@ -243,8 +243,8 @@ pub record CarryingCut (settings : CopySettings) (e : HostError) (old new : Wire
 abbrev pub ResultCut : (Giving → Result PushReport CopyRefusal → Type 0) → HostError → Type 0
 ResultCut Does e = (r : Result PushReport CopyRefusal) × IsKept r × Does (OutcomeCut e) r
 
--- Why a copy ended before its result was sent: the documents were not decided on, or not all sent; or they were, but one
--- of the frames that follow them was not sent, or no reply to one was received.
+-- Why a copy ended before its result was sent: the documents were not decided on, or not all sent; or they were, but
+-- one of the frames that follow them was not sent, or no reply to one was received.
 abbrev pub CopyCut : CopySettings → HostError → Wire → Wire → Type 0
 CopyCut settings e old new = LiveDocumentsCut settings.settings e old new ⊎ (SideCut settings e old new
     ⊎ (CarryingCut settings e old new

@@ -36,8 +36,8 @@ AskedBy o l d r old new = TagsAsked o.asks (at_moment o.client o.moment) (refere
 
 -- the documents were copied
 abbrev pub PushedBy : Opened → VerifiedDocuments → Result PushReport DocumentsRefusal → Wire → Wire → Type 0
-PushedBy o d r old new = Pushed (at_moment o.client o.moment) (reference_in o.to.image) (registry_auth o.to.auth) o.to.tag
-    d (auth_state_of o.client) r old new
+PushedBy o d r old new = Pushed (at_moment o.client o.moment) (reference_in o.to.image) (registry_auth o.to.auth)
+    o.to.tag d (auth_state_of o.client) r old new
 
 -- what was done at the target
 abbrev pub AtTargetBy : Opened → VerifiedDocuments → Result PushReport CopyRefusal → Wire → Wire → Type 0

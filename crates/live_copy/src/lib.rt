@@ -1,5 +1,5 @@
-//! A copy of an image's documents with a host: they are decided on at the source, the target is asked what its tags name,
-//! the host carries the blobs, and the target is asked whether it has each blob before the documents are pushed.
+//! A copy of an image's documents with a host: they are decided on at the source, the target is asked what its tags
+//! name, the host carries the blobs, and the target is asked whether it has each blob before the documents are pushed.
 #![tactic(auto)]
 
 mod delivery;

@@ -254,9 +254,10 @@ fn source_settings(settings: CopySettings) -> LiveSettings
 }
 
 /// Copies an image's documents with a host, after a frame `copy` was received: decides on them at the source as
-/// `serve_documents` does and sends them; asks what the target's tags name as `free_target` does, if a tag is pushed and
-/// may not be replaced; waits until the host carried the blobs; asks the target for each blob, and pushes the documents
-/// as `push_documents` does; and sends what was pushed, or why it was refused. Returns the exit status and the streams.
+/// `serve_documents` does and sends them; asks what the target's tags name as `free_target` does, if a tag is pushed
+/// and may not be replaced; waits until the host carried the blobs; asks the target for each blob, and pushes the
+/// documents as `push_documents` does; and sends what was pushed, or why it was refused. Returns the exit status and
+/// the streams.
 pub fn serve_copy<S: Source, K: Sink>(
     alloc: Global,
     streams: Streams<S, K>,

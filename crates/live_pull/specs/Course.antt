@@ -45,8 +45,9 @@ pub record FinishedBy (Gives : Giving) (decide : Whole VerifiedDocuments) (k l :
   pub given : Gives r decided_at new
 
 -- the host was asked about the layers found, and its answers decided
-pub record AskedAndDecidedBy (Gives : Giving) (Asks : Asking) (decide : Answers → TrustedLayers → Whole VerifiedDocuments)
-    (k l : Kept) (found : TrustedLayers) (old new : Wire) (r : Result VerifiedDocuments PullRefusal) : Type 0 where
+pub record AskedAndDecidedBy (Gives : Giving) (Asks : Asking)
+    (decide : Answers → TrustedLayers → Whole VerifiedDocuments) (k l : Kept) (found : TrustedLayers)
+    (old new : Wire) (r : Result VerifiedDocuments PullRefusal) : Type 0 where
   pub asked_at : Wire
   pub answers : Answers
   pub questions : WereAsked answers.list old asked_at
@@ -78,12 +79,13 @@ pub record AskingCut (collect : Whole TrustedLayers) (k l : Kept) (e : HostError
   pub asks : AsksCause e searched_at new
 
 -- the same course, with documents or a refusal sent at its end
-abbrev pub Course : Asking → Whole TrustedLayers → (Answers → TrustedLayers → Whole VerifiedDocuments) → Kept → Kept → Wire
-    → Wire → Result VerifiedDocuments PullRefusal → Type 0
+abbrev pub Course : Asking → Whole TrustedLayers → (Answers → TrustedLayers → Whole VerifiedDocuments) → Kept → Kept
+    → Wire → Wire → Result VerifiedDocuments PullRefusal → Type 0
 Course = CourseBy DocumentsTold
 
 -- the exchanges of the decision, if there was one
-abbrev pub exchanges_after : (Gives : Giving) (Asks : Asking) (decide : Answers → TrustedLayers → Whole VerifiedDocuments) (k l : Kept)
+abbrev pub exchanges_after : (Gives : Giving) (Asks : Asking)
+    (decide : Answers → TrustedLayers → Whole VerifiedDocuments) (k l : Kept)
     (found : Result TrustedLayers PullRefusal) (old new : Wire) (r : Result VerifiedDocuments PullRefusal)
     → AfterSearchBy Gives Asks decide k l found old new r → List Exchange
 exchanges_after Gives Asks decide k l (Ok found) old new r after = after.finished.decision.conversation

@@ -26,7 +26,8 @@ pub record DecidedFrom (settings : LiveSettings) (k l : Kept) (r : Result Verifi
     (old new : Wire) : Type 0 where
   pub image : Reference
   pub reads : reference_of settings.reference ≡ Ok image
-  pub course : CourseBy NothingTold (asks_of settings) (collect_row settings image) (decide_row settings image) k l old new r
+  pub course : CourseBy NothingTold (asks_of settings) (collect_row settings image) (decide_row settings image)
+      k l old new r
   pub justified : JustifiedBy NothingTold settings image k l old new r course
 
 -- the same by a new client

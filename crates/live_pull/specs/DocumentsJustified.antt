@@ -28,8 +28,8 @@ FoundJustified policy_context s image a k l c faults (Ok found) = AnsweredOrFres
 FoundJustified policy_context s image a k l c faults (Err e) =
     DocumentsCause policy_context s image a (snapshot k 0) c (snapshot l faults) e
 
--- the documents hold, are those of the digest that was found, and are bodies of answers in these exchanges; an error has
--- its cause there
+-- the documents hold, are those of the digest that was found, and are bodies of answers in these exchanges; an error
+-- has its cause there
 abbrev pub DecisionJustified : {V : Type 0} {H : V → Type 0} → PolicyContext V H → Context → Reference → RegistryAuth
     → TrustedLayers → Kept → Kept → List Exchange → ℕ → Result VerifiedDocuments PullRefusal → Type 0
 DecisionJustified policy_context s image a found k l c faults (Ok d) =
@@ -50,7 +50,8 @@ AfterJustified Gives settings image k l (Err e) old new r after = Unit {0}
 -- both parts are justified by their own exchanges, and confined
 pub record JustifiedBy (Gives : Giving) (settings : LiveSettings) (image : Reference) (k l : Kept) (old new : Wire)
     (r : Result VerifiedDocuments PullRefusal)
-    (course : CourseBy Gives (asks_of settings) (collect_row settings image) (decide_row settings image) k l old new r) : Type 0 where
+    (course : CourseBy Gives (asks_of settings) (collect_row settings image) (decide_row settings image)
+    k l old new r) : Type 0 where
   pub search : FoundJustified (everyone_of settings) (context_of settings) image settings.auth k course.kept
       course.search.conversation course.search.faults course.found
   pub confined : Confined (context_of settings) image settings.auth k course.kept course.search.conversation

@@ -150,8 +150,8 @@ fn converse<S: Source, K: Sink>(
 }
 
 /// Searches signature layers, asks the host about them, and decides on the documents of the image under its answers.
-/// Nothing is searched twice, no blob is requested after the search, and the result is not sent. Returns the exit status in
-/// place of the result if the host's stream or the output failed, or if memory ran out.
+/// Nothing is searched twice, no blob is requested after the search, and the result is not sent. Returns the exit
+/// status in place of the result if the host's stream or the output failed, or if memory ran out.
 pub fn search_and_decide<S: Source, K: Sink>(
     alloc: Global,
     streams: Streams<S, K>,
@@ -220,7 +220,8 @@ fn terms_from(asked: Asked, constraints: List<Constraint>, settings: LiveSetting
 
 /// Does what `search_and_decide` does by a client that the caller keeps, which must have the settings and know the logs
 /// that `settings` states. What it has cached less than 60 seconds before the moment of these settings is not requested
-/// again; the documents are always requested. Returns the exit status in place of the result as `search_and_decide` does.
+/// again; the documents are always requested. Returns the exit status in place of the result as `search_and_decide`
+/// does.
 pub fn decide_again<S: Source, K: Sink>(
     alloc: Global,
     streams: Streams<S, K>,

@@ -1,5 +1,5 @@
-//! A pull with a host that opens the connections and verifies signatures, of an image or of its documents alone: what is
-//! asked, and what is sent.
+//! A pull with a host that opens the connections and verifies signatures, of an image or of its documents alone: what
+//! is asked, and what is sent.
 #![tactic(auto)]
 
 mod documents;

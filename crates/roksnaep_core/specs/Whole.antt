@@ -27,14 +27,16 @@ Serves (first.Image settings) s before after old new =
 Serves (first.Documents settings) s before after old new =
     (after ≡ before) × Ends (λ r. LiveDocuments settings r old new) (λ e. LiveDocumentsCut settings e old new) s
 Serves (first.Lock settings) s before after old new =
-    (after ≡ before) × EndsChecked (λ held. LockChecked settings held old new) (λ e. LockCheckedCut settings e old new) s
+    (after ≡ before)
+    × EndsChecked (λ held. LockChecked settings held old new) (λ e. LockCheckedCut settings e old new) s
 Serves (first.Blobs settings) s before after old new =
     (after ≡ before) × EndsBy (λ r. LiveBlobs settings r old new) (λ e. LiveBlobsCut settings e old new) s
 Serves (first.Copy settings) s before after old new = (after ≡ before) × CopyEnds settings s old new
 Serves (first.Carry settings) s before after old new = CarryEnds settings s before after old new
 Serves (first.Check settings) s before after old new =
     (after ≡ before) × EndsChecked (λ held. Checked settings held old new) (λ e. CheckedCut settings e old new) s
-Serves (first.Admit settings) s before after old new = (after ≡ before) × ReviewsServe settings.rules settings.reviews s old new
+Serves (first.Admit settings) s before after old new =
+    (after ≡ before) × ReviewsServe settings.rules settings.reviews s old new
 
 -- a first frame was received, and what it asks for ended with this status
 abbrev pub FirstServed : Status → SourceState → SourceState → Wire → Wire → Type 0
@@ -43,4 +45,5 @@ FirstServed s before after old new = (frame : FirstFrame) × (begun : Wire)
 
 -- what a status means: of what a first frame asks for; or why none was received, and the second source is as it was
 abbrev pub CoreMeans : Status → SourceState → SourceState → Wire → Wire → Type 0
-CoreMeans s before after old new = FirstServed s before after old new ⊎ ((after ≡ before) × FirstCause first_of s old new)
+CoreMeans s before after old new =
+    FirstServed s before after old new ⊎ ((after ≡ before) × FirstCause first_of s old new)

@@ -5,8 +5,8 @@ use byte_streams::{Failed, Source};
 use std::fs::{self, File};
 use std::io::{self, Read};
 
-/// Reads what the descriptor 3 of the process gives. It is opened at the first call, so that nothing waits for it before
-/// it is read; that it cannot be opened is a fault, as each error is.
+/// Reads what the descriptor 3 of the process gives. It is opened at the first call, so that nothing waits for it
+/// before it is read; that it cannot be opened is a fault, as each error is.
 #[derive(Drop)]
 pub struct Descriptor<'a> {
     rt: &'a HostRuntime,

@@ -79,9 +79,9 @@ fn end_with<S, K>(status: Status, streams: Streams<S, K>) -> Ended<S, K>
     Ended { status, streams }
 }
 
-/// Does what a host asks for, which opens the connections, verifies signatures and supplies the time: receives the first
-/// frame, does what it asks for, and sends the result. Returns the exit status with the streams, and the second source,
-/// which only a carry reads.
+/// Does what a host asks for, which opens the connections, verifies signatures and supplies the time: receives the
+/// first frame, does what it asks for, and sends the result. Returns the exit status with the streams, and the
+/// second source, which only a carry reads.
 pub fn run<S: Source, K: Sink, B: Source>(
     alloc: Global,
     streams: Streams<S, K>,

@@ -8,4 +8,4 @@ returns-in-Ok g c =
     c.in_default.ensures.told c.in-Ok.ensures c.decide.ensures.verdict c.decide.ensures.settings c.decide.ensures.log_keys refl refl
 
 pub returns-in-Err : goal.returns-in-Err
-returns-in-Err g c = rw (c.ended.ensures, c.from.ensures) (untold c.args.rule.now _ c.args.moment c.args.image.now c.in-Err.error _ _ c.in-Err.ensures.cause)
+returns-in-Err g c = rw (c.ended.ensures, c.from.ensures) (untold c.args.rule.now c.args.rule.now c.args.moment c.args.image.now c.in-Err.error _ _ c.in-Err.ensures.cause)

@@ -12,4 +12,4 @@ returns-in-Ok g c =
 pub returns-in-Err : goal.returns-in-Err
 returns-in-Err g c =
     rw c.stop_with.ensures
-    (undecided c.args.rules.now.items _ c.args.frame.now c.args.review.now c.in-Err.status _ _ (rw (c.as_slice.ensures, c.in-Err.is) at c.decide_images-streams.ensures.decided))
+    (undecided c.args.rules.now.items c.decide_images-streams.new.rules.items c.args.frame.now c.args.review.now c.in-Err.status _ _ (rw (c.as_slice.ensures, c.in-Err.is) at c.decide_images-streams.ensures.decided))

@@ -1,15 +1,20 @@
 use Rattle.std.proofs.Common.{[], refl, sym, ◌∙◌}
+use Rattle.live_host.specs.Wire.{wire}
 use Rattle.live_host.proofs.FramesIn.{asks}
 use Rattle.live_copy.specs.Course.{CarryCut}
 use Rattle.live_copy.specs.Heads.{carried_of, carry_head}
-use Rattle.live_copy.proofs.Ending.{host_cause, is_carried, other_reply, passed_on, unasked, unheard}
+use Rattle.live_copy.proofs.Ending.{is_carried, other_reply, passed_on, unasked, unheard}
 use Rattle.live_copy.proofs.live.await_carried.Goals as goal
 
 pub returns-in_err-tell-clause-cause : goal.returns-in_err-tell-clause-cause
-returns-in_err-tell-clause-cause g c = passed_on (λ e. CarryCut e _ _) _ _ (host_cause _ _ (unasked _ _ _ _ c.in_ok-head.ensures.head c.in_err-tell.ensures.cause)) c.from_residual-in_err-tell.ensures
+returns-in_err-tell-clause-cause g c =
+    passed_on (λ e. CarryCut e (wire g.S.Source.state g.K.Sink.state c.args.streams.now) (wire g.S.Source.state g.K.Sink.state c.tell.new.streams)) _ _
+    (unasked c.in_ok-head.head _ _ _ c.in_ok-head.ensures.head c.in_err-tell.ensures.cause) c.from_residual-in_err-tell.ensures
 
 pub returns-in_err-frame-clause-cause : goal.returns-in_err-frame-clause-cause
-returns-in_err-frame-clause-cause g c = passed_on (λ e. CarryCut e _ _) _ _ (host_cause _ _ (unheard _ _ _ _ _ c.in_ok-head.ensures.head c.in_ok-tell.ensures.told c.in_err-frame.ensures.cause)) c.from_residual-in_err-frame.ensures
+returns-in_err-frame-clause-cause g c =
+    passed_on (λ e. CarryCut e (wire g.S.Source.state g.K.Sink.state c.args.streams.now) (wire g.S.Source.state g.K.Sink.state c.hear.new.streams)) _ _
+    (unheard c.in_ok-head.head _ _ (wire g.S.Source.state g.K.Sink.state c.tell.new.streams) _ c.in_ok-head.ensures.head c.in_ok-tell.ensures.told c.in_err-frame.ensures.cause) c.from_residual-in_err-frame.ensures
 
 pub returns-then-is_carried-clause-carried : goal.returns-then-is_carried-clause-carried
 returns-then-is_carried-clause-carried g c =
