@@ -68,5 +68,5 @@ live_ends settings o status before after old new opens h = ends_as
     {P = CarriedAndTold (within o.client.settings o.moment) o.into settings.digest (auth_state_of o.client) before after old new} {Q = LiveCarry settings before after old new}
     {C = λ e. CarriedAndCut (within o.client.settings o.moment) o.into settings.digest (auth_state_of o.client) before after e old new} {D = λ e. LiveCarryCut settings before after e old new} status
     (λ r kept done. live (CarryTold settings.digest) r done) (λ e both. (both.0, live (λ outcome. CarryCut settings.digest outcome e) both.0 both.1)) h where
-  live : (Gives : Giving) (r : Result Bool OciDistributionError) → CarriedBy Gives (within o.client.settings o.moment) o.into settings.digest (auth_state_of o.client) before after old new r → LiveCarryBy Gives settings before after old new r
-  live Gives r done = record { into = o.into; reads = opens.into; done = rw (opens.settings, opens.moment, opens.state) at done }
+      live : (Gives : Giving) (r : Result Bool OciDistributionError) → CarriedBy Gives (within o.client.settings o.moment) o.into settings.digest (auth_state_of o.client) before after old new r → LiveCarryBy Gives settings before after old new r
+      live Gives r done = record { into = o.into; reads = opens.into; done = rw (opens.settings, opens.moment, opens.state) at done }

@@ -77,5 +77,5 @@ pub live_ends : (settings : BlobSettings) (o : Opened) (old new : Wire) (e : Sta
 live_ends settings o old new e opens ends = ends_as {P = PulledAndTold (within o.settings o.moment) o.image o.state (blobs_in settings) old new} {Q = λ r. LiveBlobs settings r old new}
     {C = λ h. PulledAndCut (within o.settings o.moment) o.image o.state (blobs_in settings) h old new} {D = λ h. LiveBlobsCut settings h old new} e
     (λ r kept h. live BlobsTold r h) (λ h both. (both.0, live (λ digests outcome. BlobsCut digests outcome h) both.0 both.1)) ends where
-  live : (Gives : Giving) (r : Result Unit OciDistributionError) → PulledBy Gives (within o.settings o.moment) o.image o.state (blobs_in settings) old new r → LiveBlobsBy Gives settings r old new
-  live Gives r h = record { image = o.image; reads = opens.image; done = rw (opens.settings, opens.moment, opens.state) at h }
+      live : (Gives : Giving) (r : Result Unit OciDistributionError) → PulledBy Gives (within o.settings o.moment) o.image o.state (blobs_in settings) old new r → LiveBlobsBy Gives settings r old new
+      live Gives r h = record { image = o.image; reads = opens.image; done = rw (opens.settings, opens.moment, opens.state) at h }

@@ -219,7 +219,7 @@ live_ends own settings p old new e prepares h =
     {D = λ x. LiveCut settings x old new} e
     (λ r t. live settings p prepares own (OutcomeTold settings.blobs) old new r t)
     (λ x cut. live_cut x cut) h where
-  live_cut : (x : HostError) → SearchAskPullCut (searched_by p.terms p.client.rekor_pub_keys (client_state p.client).settings) (layers_asked p.terms p.client.rekor_pub_keys) (λ answers. row_for own p.terms answers p.client.rekor_pub_keys (client_state p.client).settings) settings.blobs (client_state p.client).kept x old new
-      → LiveCut settings x old new
-  live_cut x (inl asking) = inl (live_asking settings p prepares x old new asking)
-  live_cut x (inr (r, t)) = inr (r, live settings p prepares own (λ outcome. OutcomeCut settings.blobs outcome x) old new r t)
+      live_cut : (x : HostError) → SearchAskPullCut (searched_by p.terms p.client.rekor_pub_keys (client_state p.client).settings) (layers_asked p.terms p.client.rekor_pub_keys) (λ answers. row_for own p.terms answers p.client.rekor_pub_keys (client_state p.client).settings) settings.blobs (client_state p.client).kept x old new
+          → LiveCut settings x old new
+      live_cut x (inl asking) = inl (live_asking settings p prepares x old new asking)
+      live_cut x (inr (r, t)) = inr (r, live settings p prepares own (λ outcome. OutcomeCut settings.blobs outcome x) old new r t)
