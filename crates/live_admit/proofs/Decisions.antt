@@ -1,5 +1,5 @@
 -- Images that are decided one after another.
-use Rattle.std.proofs.Common.{◌≡◌, ℕ, List, [], ◌∷◌, ◌++◌, length, Result, Ok, Err, refl, sym, ap, subst, append_assoc, append-nil, arith}
+use Rattle.std.proofs.Common.{◌≡◌, ℕ, ◌+◌, ◌∙◌, List, [], ◌∷◌, ◌++◌, length, length-append, Result, Ok, Err, refl, sym, ap, subst, append_assoc, append-nil, arith}
 use Rattle.registry_calls.specs.Clients.{Kept}
 use Rattle.cosign_chain.specs.declared.verified_documents.VerifiedDocuments.{VerifiedDocuments}
 use Rattle.cosign_rows.specs.declared.refusal.PullRefusal.{PullRefusal}
@@ -70,6 +70,13 @@ one_more first held next_held moment all rest x done after_done v old now next b
           (subst (λ (ys : List Verdict). ImagesDecided start after moment all ys old end) (sym (append_assoc done (v ∷ []) vs)) (reached.more end after (v ∷ vs) (led.0, next, led.2, h)));
       cut = λ e end h. reached.cut e end (cut_later reached.mid led.0 moment x rest v e now next end led.2 h);
     }
+
+-- one more verdict for one image less
+pub one_judged : (done after_done : List Verdict) (v : Verdict) (rest more all : List PlacedImage) (x : PlacedImage) → after_done ≡ done ++ v ∷ [] → rest ≡ x ∷ more → length done + length rest ≡ length all → length after_done + length more ≡ length all
+one_judged done after_done v rest more all x is rest_is so_far =
+    let longer : length after_done ≡ length done + 1 = ap length is ∙ length-append done (v ∷ []) in
+    let shorter : length rest ≡ length more + 1 = ap length rest_is ∙ (omega arith) in
+    omega (arith, longer, shorter, so_far)
 
 nothing_left : (xs : List PlacedImage) → length xs ≡ 0 → xs ≡ []
 nothing_left [] h = refl
