@@ -1,12 +1,10 @@
 -- A property of all settings: the target's reference parses.
 use Rattle.std.proofs.Common.{◌≡◌, Option, Some, None, IfSome, subst, codes}
-use Rattle.std.specs.Prelude.{IsOk}
 use Rattle.serde_json.specs.Data.{Data}
 use Rattle.serde_json.specs.Find.{get}
-use Rattle.json_tables.specs.Reading.{◌>>=◌, u64_of}
+use Rattle.json_tables.specs.Reading.{u64_of}
 use Rattle.json_tables.specs.Objects.{only}
 use Rattle.json_tables.specs.Member.{required}
-use Rattle.oci_names.specs.Reference.{reference_of}
 use Rattle.recorded_case.proofs.CaseParts.{through}
 use Rattle.live_host.specs.Names.{frame_named}
 use Rattle.live_pull.proofs.TargetReady.{target_ready}

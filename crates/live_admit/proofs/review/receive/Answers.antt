@@ -12,4 +12,4 @@ returns-in_err-frame-clause-cause g c =
 pub returns-in_err-review-clause-cause : goal.returns-in_err-review-clause-cause
 returns-in_err-review-clause-cause g c =
     passed_on (StatusCause (λ e. ReceiveCut e (wire g.S.Source.state g.K.Sink.state c.args.streams.now) (wire g.S.Source.state g.K.Sink.state c.hear.new.streams))) _ _
-    (unread _ c.in_ok-frame.frame _ _ c.in_ok-frame.ensures.heard c.in_err-review.ensures) c.from_residual-in_err-review.ensures
+    (unread _ c.in_ok-frame.frame (wire g.S.Source.state g.K.Sink.state c.args.streams.now) (wire g.S.Source.state g.K.Sink.state c.hear.new.streams) c.in_ok-frame.ensures.heard c.in_err-review.ensures) c.from_residual-in_err-review.ensures

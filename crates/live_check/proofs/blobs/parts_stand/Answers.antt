@@ -18,4 +18,4 @@ returns-clause-checked g c =
     compared _ _ _ _ _ _ found.0 c.in_ok-text.text c.eq.result (search rules) found.1 found.2 (rw c.if-not-sized.false at c.in_ok-sized.ensures.hashed) (λ m h. c.in_ok-text.ensures.text _ m h) (search rules)
 
 pub returns-in_err-sized-clause-cause : goal.returns-in_err-sized-clause-cause
-returns-in_err-sized-clause-cause g c = passed_on _ _ _ (parts_cut _ _ _ _ _ (search rules) c.in_err-sized.ensures.cause) c.from_residual-in_err-sized.ensures
+returns-in_err-sized-clause-cause g c = passed_on _ _ _ (parts_cut c.args.x.now _ _ _ _ (search rules) c.in_err-sized.ensures.cause) c.from_residual-in_err-sized.ensures

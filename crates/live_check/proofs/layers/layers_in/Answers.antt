@@ -8,4 +8,4 @@ pub loop-entry-preserved : goal.loop-entry-preserved
 loop-entry-preserved c = one_added c.args.log_keys.now _ _ c.entry-item.result _ _ c.loop-entry-test.true c.entry-item.is c.in_ok-add_layer.ensures c.loop-entry.invariant
 
 pub returns : goal.returns
-returns c = rw c.as_slice.ensures at (all_added c.args.log_keys.now _ _ _ c.loop-entry-test.false c.loop-entry.invariant)
+returns c = rw c.as_slice-entry-items.ensures at (all_added c.args.log_keys.now _ _ _ c.loop-entry-test.false c.loop-entry.invariant)
